@@ -1,0 +1,13 @@
+-- The definitions of `float` are what specs/ says, and nothing else is.
+pub mod Kept
+pub mod Reach
+pub mod Nearest
+pub mod Compare
+pub mod Choose
+pub mod Whole
+pub mod Casts
+pub mod Narrow
+pub mod Root
+pub mod Sign
+pub mod Bits
+pub mod Examples

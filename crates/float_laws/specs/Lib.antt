@@ -1,0 +1,7 @@
+-- What the definitions of `float` mean, said without working them out.
+pub mod Nearest
+pub mod Root
+pub mod Whole
+pub mod Casts
+pub mod Choose
+pub mod Sign

@@ -1,0 +1,1 @@
+// Laws only: specs/ has the statements, proofs/ the proofs.
