@@ -3,12 +3,16 @@ use mathlib.Core.Path.{_≡_, subst}
 use mathlib.Core.Logic.{_⊎_, inl, inr}
 use Prim.Native.Nat.{ℕ, _^_, _≤_, _<_, compare, Ordering, Ordering·lt, Ordering·eq, Ordering·gt}
 use native.Mathlib.Nat.{lt-of-lt-of-le, lt-of-not-le, not-le-of-lt, le-of-suc-le-suc}
+use native.Mathlib.Omega.{arith}
 use mathlib.Core.Bool.{Bool, true, false, not}
 use lib.Dec.{T, isLe, isEq, ltb, eqb, leb→le, nleb→lt, ltb→lt, nltb→le, eqb→eq, eqb-refl}
 use lib.Arith.{lt-of-le-ne}
 use lib.Pow.{pow-lt, pow-mono}
 use lib.Ieee.{size}
 use lib.Ieee.Digits.{size-lt}
+
+pub le-of-not-lt : {a b : ℕ} → ¬ (a < b) → b ≤ a
+le-of-not-lt h = omega arith
 
 pub lt-or-le : (a b : ℕ) → (a < b) ⊎ (b ≤ a)
 lt-or-le a b = go (ltb a b) (ltb→lt a b) (nltb→le a b)

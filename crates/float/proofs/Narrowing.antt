@@ -1,9 +1,11 @@
--- `narrowOf` at the pattern of an f64 that is not below zero, by the size of its exponent's field; and the f32 of a whole number with 64 digits in front.
+-- `narrowOf` at the pattern of an f64 that is not below zero, by the size of its exponent's field; and the f32 of a whole number with 64
+-- digits in front.
 use mathlib.Core.Path.{_≡_, refl, sym, ap, _∙_, subst}
 use mathlib.Core.Logic.{_⊎_, inl, inr}
 use mathlib.Core.Bool.{Bool, false, not}
 use Prim.Native.Nat.{ℕ, zero, suc, _+_, _-_, _*_, _/_, _%_, _^_, _≤_, _<_, compare}
-use native.Mathlib.Nat.{le-trans, le-of-eq, le-refl, le-antisymm, lt-irrefl, lt-of-lt-of-le, lt-of-le-of-lt, mod-lt, mod-eq-of-lt, mul-assoc, mul-one, zero-add, mul-le-mul, mul-lt-mul-of-pos-right, div-eq-of-lt}
+use native.Mathlib.Nat.{le-trans, le-of-eq, le-refl, le-antisymm, lt-irrefl, lt-of-lt-of-le, lt-of-le-of-lt, mod-lt, mod-eq-of-lt}
+use native.Mathlib.Nat.{mul-assoc, mul-one, zero-add, mul-le-mul, mul-lt-mul-of-pos-right, div-eq-of-lt}
 use native.Mathlib.Omega.{arith}
 use lib.IntN.{pos}
 use lib.Dec.{lit<, lit≤}
@@ -22,11 +24,12 @@ use Rattle.float.proofs.Digits.{leads, shifted}
 use Rattle.float.proofs.Rounded.{rounded, closest-most, closest-least, picks-low}
 
 -- ---- `narrowOf` sees only the value
-pub narrow-value : (v : Float) (s : Bool) (n c : ℕ) → 0 < c → HasValue v s n c → narrowOf v ≡ round binary32 s n c
+narrow-value : (v : Float) (s : Bool) (n c : ℕ) → 0 < c → HasValue v s n c → narrowOf v ≡ round binary32 s n c
 unfolding narrowOf
 narrow-value nan s n c C h = absurd h
 narrow-value (inf t) s n c C h = absurd h
-narrow-value (fin t m e) s n c C h = ap (λ (b : Bool). round binary32 b (m * up e) (down e)) (h .0) ∙ round-same binary32 s (m * up e) (down e) n c (down-pos e) C (h .1)
+narrow-value (fin t m e) s n c C h =
+    ap (λ (b : Bool). round binary32 b (m * up e) (down e)) (h .0) ∙ round-same binary32 s (m * up e) (down e) n c (down-pos e) C (h .1)
 
 pub narrow-nan : narrowOf nan ≡ nan
 unfolding narrowOf
@@ -75,7 +78,9 @@ module _ (a : ℕ) where
   m-least = omega arith
 
   is-rounded : 1 ≤ e → e < 2047 → narrowOf (ofBits binary64 a) ≡ round binary32 false (m * 2 ^ (e - 1)) (2 ^ 1074)
-  is-rounded h g = narrow-value (ofBits binary64 a) false (m * 2 ^ (e - 1)) (2 ^ 1074) (pow-pos 1074) (subst (λ (x : ℕ). HasValue (ofBits binary64 a) false x (2 ^ 1074)) count (bits-value binary64 a (omega arith)))
+  is-rounded h g =
+      narrow-value (ofBits binary64 a) false (m * 2 ^ (e - 1)) (2 ^ 1074) (pow-pos 1074)
+      (subst (λ (x : ℕ). HasValue (ofBits binary64 a) false x (2 ^ 1074)) count (bits-value binary64 a (omega arith)))
     where
       flip : (x : ℕ) → 4503599627370496 + x ≡ x + 4503599627370496
       flip x = omega arith
@@ -92,7 +97,9 @@ module _ (a : ℕ) where
     sum x h = omega arith
 
     is-units : narrowOf (ofBits binary64 a) ≡ units binary32 false (closest m (2 ^ 29)) (e - 897)
-    is-units = is-rounded some F ∙ rounded binary32 (m * 2 ^ (e - 1)) (2 ^ 1074) m 29 (e - 897) (pow-pos 1074) (powers m (e - 1) 149 29 (e - 897) 1074 (sum e E)) m-most (λ K. m-least) false
+    is-units =
+        is-rounded some F ∙ rounded binary32 (m * 2 ^ (e - 1)) (2 ^ 1074) m 29 (e - 897) (pow-pos 1074)
+        (powers m (e - 1) 149 29 (e - 897) 1074 (sum e E)) m-most (λ K. m-least) false
 
     pub normal-most : closest m 536870912 ≤ 16777216
     normal-most = closest-most m 29 16777216 m-most
@@ -104,7 +111,9 @@ module _ (a : ℕ) where
     normal h = pattern-of binary32 (e - 897) (closest m (2 ^ 29)) (λ K. least) normal-most (omega arith) ∙ sym is-units
 
     over : 1151 ≤ e → ofBits binary32 2139095040 ≡ narrowOf (ofBits binary64 a)
-    over h = inf32 ∙ sym (is-units ∙ units-over binary32 false (closest m (2 ^ 29)) (e - 897) (le-trans (lit≤ tt) (mul-le-mul least (pow-mono (many e h)))))
+    over h =
+        inf32 ∙ sym (is-units
+        ∙ units-over binary32 false (closest m (2 ^ 29)) (e - 897) (le-trans (lit≤ tt) (mul-le-mul least (pow-mono (many e h)))))
       where
         many : (x : ℕ) → 1151 ≤ x → 254 ≤ x - 897
         many x h = omega arith
@@ -122,8 +131,11 @@ module _ (a : ℕ) where
 
     pub subnormal : ofBits binary32 (closest m (2 ^ d)) ≡ narrowOf (ofBits binary64 a)
     subnormal =
-        ap (ofBits binary32) (sym (zero-add (closest m (2 ^ d)))) ∙ pattern-of binary32 0 (closest m (2 ^ d)) no-step subnormal-most (lit≤ tt)
-        ∙ sym (is-rounded (omega arith) (omega arith) ∙ rounded binary32 (m * 2 ^ (e - 1)) (2 ^ 1074) m d 0 (pow-pos 1074) (powers m (e - 1) 149 d 0 1074 (sum e E F)) m-below no-step false)
+        ap (ofBits binary32) (sym (zero-add (closest m (2 ^ d))))
+        ∙ pattern-of binary32 0 (closest m (2 ^ d)) no-step subnormal-most (lit≤ tt)
+        ∙ sym (is-rounded (omega arith) (omega arith)
+        ∙ rounded binary32 (m * 2 ^ (e - 1)) (2 ^ 1074) m d 0 (pow-pos 1074)
+        (powers m (e - 1) 149 d 0 1074 (sum e E F)) m-below no-step false)
       where
         sum : (x : ℕ) → 873 ≤ x → x < 897 → x - 1 + 149 + (926 - x) ≡ 0 + 1074
         sum x h g = omega arith
@@ -139,7 +151,8 @@ module _ (a : ℕ) where
 -- ---- less than 2 ^ 924 units of an f64 round to zero
 tiny : (n : ℕ) → n < 2 ^ 924 → round binary32 false n (2 ^ 1074) ≡ ofBits binary32 0
 tiny n h =
-    rounded binary32 n (2 ^ 1074) n 925 0 (pow-pos 1074) (ap (λ (x : ℕ). x * 2 ^ 149 * 2 ^ 925) (sym (mul-one n)) ∙ powers n 0 149 925 0 1074 refl) (lt-of-lt-of-le h (lit≤ tt)) no-step false
+    rounded binary32 n (2 ^ 1074) n 925 0 (pow-pos 1074)
+    (ap (λ (x : ℕ). x * 2 ^ 149 * 2 ^ 925) (sym (mul-one n)) ∙ powers n 0 149 925 0 1074 refl) (lt-of-lt-of-le h (lit≤ tt)) no-step false
     ∙ ap (λ (x : ℕ). units binary32 false x 0) (none n (2 ^ 925) (lt-of-lt-of-le h (lit≤ tt)) (twice n (2 ^ 924) (2 ^ 925) h refl))
     ∙ sym (pattern-of binary32 0 0 no-step (lit≤ tt) (lit≤ tt))
   where
@@ -152,13 +165,16 @@ tiny n h =
         ∙ picks-low 0 (n % u * 2) u (subst (λ (x : ℕ). x * 2 < u) (sym (mod-eq-of-lt h)) g)
 
 pub vanishes : (a : ℕ) → a / 4503599627370496 < 873 → ofBits binary32 0 ≡ narrowOf (ofBits binary64 a)
-vanishes a h = sym (narrow-value (ofBits binary64 a) false (unitsOf binary64 a) (2 ^ 1074) (pow-pos 1074) (bits-value binary64 a (omega arith)) ∙ tiny (unitsOf binary64 a) (go (lt-or-le a 4503599627370496)))
+vanishes a h =
+    sym (narrow-value (ofBits binary64 a) false (unitsOf binary64 a) (2 ^ 1074) (pow-pos 1074) (bits-value binary64 a (omega arith))
+    ∙ tiny (unitsOf binary64 a) (go (lt-or-le a 4503599627370496)))
   where
     go : (a < 4503599627370496) ⊎ (4503599627370496 ≤ a) → unitsOf binary64 a < 2 ^ 924
     go (inl g) = lt-of-le-of-lt (le-of-eq (units-small binary64 a g)) (lt-of-lt-of-le g (lit≤ tt))
     go (inr g) =
         lt-of-le-of-lt (le-of-eq (units-large binary64 a g))
-        (lt-of-lt-of-le (mul-lt-mul-of-pos-right {m = 4503599627370496 + a % 4503599627370496} {n = 9007199254740992} (omega (arith, mod-lt a {m = 4503599627370496} (lit< tt))) (pow-pos (a / 4503599627370496 - 1)))
+        (lt-of-lt-of-le (mul-lt-mul-of-pos-right {m = 4503599627370496 + a % 4503599627370496} {n = 9007199254740992}
+        (omega (arith, mod-lt a {m = 4503599627370496} (lit< tt))) (pow-pos (a / 4503599627370496 - 1)))
         (le-trans (mul-le-mul (le-refl 9007199254740992) (pow-mono {i = a / 4503599627370496 - 1} {j = 871} (omega arith))) (lit≤ tt)))
 
 -- ---- a whole number, shifted so that it has 64 digits
@@ -203,5 +219,6 @@ module _ (n : ℕ) (some : 0 < n) (fits : n < 18446744073709551616) where
   pub whole-pattern : ofBits binary32 ((189 - j) * 8388608 + closest shifted-up 1099511627776) ≡ ofInt binary32 (pos n)
   unfolding ofInt
   whole-pattern =
-      pattern-of binary32 (189 - j) (closest shifted-up 1099511627776) (λ K. closest-least shifted-up 40 8388608 full) whole-most (omega arith)
+      pattern-of binary32 (189 - j) (closest shifted-up 1099511627776) (λ K. closest-least shifted-up 40 8388608 full) whole-most
+      (omega arith)
       ∙ sym (rounded binary32 n 1 shifted-up 40 (189 - j) (lit< tt) steps most (λ K. full) false)

@@ -2,12 +2,14 @@
 use mathlib.Core.Path.{_≡_, refl, sym, ap, _∙_, subst}
 use mathlib.Core.Bool.{Bool, true, false, true≢false, false≢true}
 use Prim.Native.Nat.{ℕ, zero, suc, _+_, _-_, _*_, _/_, _^_, _≤_, _<_, min}
-use native.Mathlib.Nat.{le-trans, le-of-eq, lt-of-lt-of-le, lt-of-le-of-lt, mul-one, mul-assoc, mul-le-mul-left, mul-lt-mul-of-pos-right, div-lt-iff-lt-mul, pow-succ'}
+use native.Mathlib.Nat.{le-trans, le-of-eq, lt-of-lt-of-le, lt-of-le-of-lt, mul-one, mul-assoc, mul-le-mul-left, mul-lt-mul-of-pos-right}
+use native.Mathlib.Nat.{div-lt-iff-lt-mul, pow-succ'}
 use native.Mathlib.Omega.{arith}
 use lib.IntN.{ℤ, pos, negsuc}
 use lib.Dec.{T, ltb, ltb→lt, lt→ltb, le→leb, lit<, lit≤}
 use lib.Pow.{pow-pos, pow-mono}
-use lib.Ieee.{Float, nan, inf, fin, Format, binary32, binary64, prec, up, down, neg, lt, le, add, ofInt, toUnsigned, inFloat, fits, ofBits, hid}
+use lib.Ieee.{Float, nan, inf, fin, Format, binary32, binary64, prec, up, down, neg, lt, le, add, ofInt, toUnsigned, inFloat, fits, ofBits}
+use lib.Ieee.{hid}
 use lib.Ieee.Fits.{down-pos}
 use lib.Ieee.Bits.{is-true}
 use lib.Ieee.Exact.{HasValue, round-exact}
@@ -40,13 +42,13 @@ den-pos (inf s) = lit< tt
 den-pos (fin s m e) = down-pos e
 
 module _ (k : ℕ) (few : k ≤ 63) (a : Float) (small : Small k a) where
-  pub own-value : HasValue a false (num a) (den a)
+  own-value : HasValue a false (num a) (den a)
   own-value = by-digits k (λ x. HasValue x false (num x) (den x)) (λ m e h. (refl, refl)) a small
 
   num-lt : num a < 2 ^ k * den a
   num-lt = by-digits k (λ x. num x < 2 ^ k * den x) (λ m e h. h) a small
 
-  pub part-small : num a / den a < 2 ^ k
+  part-small : num a / den a < 2 ^ k
   part-small = div-lt-iff-lt-mul (den-pos a) .1 num-lt
 
   within : 2 ^ k < 18446744073709551616
@@ -54,7 +56,13 @@ module _ (k : ℕ) (few : k ≤ 63) (a : Float) (small : Small k a) where
 
   -- what the truncating cast asks
   pub truncates : T (lt (fin true 1 (pos 0)) a) × T (lt a (fin false 1 (pos 64)))
-  truncates = by-digits k (λ x. T (lt (fin true 1 (pos 0)) x) × T (lt x (fin false 1 (pos 64)))) (λ m e h. unfold lt in (lt→ltb 0 (1 * 1 * down e + m * up e * 1) (some (down e) (m * up e) (down-pos e)), lt→ltb (m * up e * 1) (1 * 2 ^ 64 * down e) (wider (m * up e) (down e) (2 ^ k) h within (down-pos e)))) a small
+  truncates =
+      by-digits k (λ x. T (lt (fin true 1 (pos 0)) x) × T (lt x (fin false 1 (pos 64))))
+      (λ m e h. unfold lt in (
+        lt→ltb 0 (1 * 1 * down e + m * up e * 1) (some (down e) (m * up e) (down-pos e)),
+        lt→ltb (m * up e * 1)
+            (1 * 2 ^ 64 * down e) (wider (m * up e) (down e) (2 ^ k) h within (down-pos e)),
+      )) a small
     where
       some : (y x : ℕ) → 0 < y → 0 < 1 * 1 * y + x * 1
       some y x h = omega arith
@@ -63,8 +71,10 @@ module _ (k : ℕ) (few : k ≤ 63) (a : Float) (small : Small k a) where
       wider x y p h g Y = omega (arith, mul-lt-mul-of-pos-right g Y)
 
   -- and what it gives
-  pub truncated : toUnsigned 64 a ≡ num a / den a
-  truncated = by-digits k (λ x. num x / den x < 2 ^ k → toUnsigned 64 x ≡ num x / den x) (λ m e h. unfold toUnsigned in (λ g. uncapped (m * up e / down e) (2 ^ k) g within)) a small part-small
+  truncated : toUnsigned 64 a ≡ num a / den a
+  truncated =
+      by-digits k (λ x. num x / den x < 2 ^ k → toUnsigned 64 x ≡ num x / den x)
+      (λ m e h. unfold toUnsigned in (λ g. uncapped (m * up e / down e) (2 ^ k) g within)) a small part-small
     where
       uncapped : (x p : ℕ) → x < p → p < 18446744073709551616 → min x 18446744073709551615 ≡ x
       uncapped x p h g = omega arith
@@ -93,11 +103,14 @@ half-value : HasValue (ofBits binary64 4602678819172646912) false 1 2
 unfolding ofBits
 half-value = (refl, refl)
 
-pub plus-half : (n : ℕ) → n < 4503599627370496 → HasValue (add binary64 (ofInt binary64 (pos n)) (ofBits binary64 4602678819172646912)) false (n * 2 + 1 * 1) (1 * 2)
+plus-half : (n : ℕ) → n < 4503599627370496
+    → HasValue (add binary64 (ofInt binary64 (pos n)) (ofBits binary64 4602678819172646912)) false (n * 2 + 1 * 1) (1 * 2)
 plus-half n h =
     subst (λ (x : Float). HasValue x false (n * 2 + 1 * 1) (1 * 2))
-    (sym (add-values false false n 1 1 2 (lit< tt) (lit< tt) binary64 (ofInt binary64 (pos n)) (ofBits binary64 4602678819172646912) (ofInt-value binary64 n (omega arith)) half-value ∙ sum-like binary64 false (n * 2) (1 * 1) (1 * 2)))
-    (round-exact binary64 false (n * 2 + 1 * 1) (1 * 2) (n * 2 + 1 * 1) 1073 (lit< tt) small (lt-of-lt-of-le (mul-lt-mul-of-pos-right small (pow-pos 1073)) (lit≤ tt)) (double (n * 2 + 1 * 1) (2 ^ 1073) (2 ^ 1074) refl))
+    (sym (add-values false false n 1 1 2 (lit< tt) (lit< tt) binary64 (ofInt binary64 (pos n)) (ofBits binary64 4602678819172646912)
+    (ofInt-value binary64 n (omega arith)) half-value ∙ sum-like binary64 false (n * 2) (1 * 1) (1 * 2)))
+    (round-exact binary64 false (n * 2 + 1 * 1) (1 * 2) (n * 2 + 1 * 1) 1073 (lit< tt) small
+    (lt-of-lt-of-le (mul-lt-mul-of-pos-right small (pow-pos 1073)) (lit≤ tt)) (double (n * 2 + 1 * 1) (2 ^ 1073) (2 ^ 1074) refl))
   where
     small : n * 2 + 1 * 1 < 9007199254740992
     small = omega arith
@@ -107,7 +120,9 @@ plus-half n h =
 
 -- ---- whether n, the whole part of a, or n + 1 is meant
 module _ (a : Float) (n : ℕ) where
-  pub up-by : Small 23 a → WholePart 23 a n → (lt (ofInt binary32 (pos n)) a ≡ true → n + 1 ≡ upBy (num a) (den a)) × (lt (ofInt binary32 (pos n)) a ≡ false → n ≡ upBy (num a) (den a))
+  pub up-by : Small 23 a → WholePart 23 a n
+      → (lt (ofInt binary32 (pos n)) a ≡ true → n + 1 ≡ upBy (num a) (den a))
+      × (lt (ofInt binary32 (pos n)) a ≡ false → n ≡ upBy (num a) (den a))
   up-by s w =
       let yes = lt-true n 1 (num a) (den a) (lit< tt) (den-pos a) (ofInt binary32 (pos n)) a value (own-value 23 (lit≤ tt) a s) in
       let no = lt-false n 1 (num a) (den a) (lit< tt) (den-pos a) (ofInt binary32 (pos n)) a value (own-value 23 (lit≤ tt) a s) in
@@ -117,25 +132,38 @@ module _ (a : Float) (n : ℕ) where
       value = ofInt-value binary32 n (let l = w .below in omega arith)
 
       next : n * den a < num a * 1 → n + 1 ≡ upBy (num a) (den a)
-      next l = ap (λ (x : ℕ). x + 1) (w .same) ∙ sym (up-next (num a) (den a) (den-pos a) (subst (λ (x : ℕ). x * den a < num a) (w .same) (lt-of-lt-of-le l (le-of-eq (mul-one (num a))))))
+      next l =
+          ap (λ (x : ℕ). x + 1) (w .same)
+          ∙ sym (up-next (num a) (den a) (den-pos a)
+          (subst (λ (x : ℕ). x * den a < num a) (w .same) (lt-of-lt-of-le l (le-of-eq (mul-one (num a))))))
 
       same : num a * 1 ≤ n * den a → n ≡ upBy (num a) (den a)
-      same l = w .same ∙ sym (up-same (num a) (den a) (den-pos a) (subst (λ (x : ℕ). num a ≤ x * den a) (w .same) (le-trans (le-of-eq (sym (mul-one (num a)))) l)))
+      same l =
+          w .same ∙ sym (up-same (num a) (den a) (den-pos a)
+          (subst (λ (x : ℕ). num a ≤ x * den a) (w .same) (le-trans (le-of-eq (sym (mul-one (num a)))) l)))
 
   abbrev middle : Float
   middle = add binary64 (ofInt binary64 (pos n)) (ofBits binary64 4602678819172646912)
 
-  pub half-by : Small 52 a → WholePart 52 a n → (le middle a ≡ true → n + 1 ≡ halfBy (num a) (den a)) × (le middle a ≡ false → n ≡ halfBy (num a) (den a))
+  pub half-by : Small 52 a → WholePart 52 a n
+      → (le middle a ≡ true → n + 1 ≡ halfBy (num a) (den a)) × (le middle a ≡ false → n ≡ halfBy (num a) (den a))
   half-by s w =
-      let yes = le-true (n * 2 + 1 * 1) (1 * 2) (num a) (den a) (lit< tt) (den-pos a) middle a (plus-half n (w .below)) (own-value 52 (lit≤ tt) a s) in
-      let no = le-false (n * 2 + 1 * 1) (1 * 2) (num a) (den a) (lit< tt) (den-pos a) middle a (plus-half n (w .below)) (own-value 52 (lit≤ tt) a s) in
+      let yes =
+      le-true (n * 2 + 1 * 1) (1 * 2) (num a) (den a) (lit< tt) (den-pos a) middle a (plus-half n (w .below))
+      (own-value 52 (lit≤ tt) a s) in
+      let no =
+      le-false (n * 2 + 1 * 1) (1 * 2) (num a) (den a) (lit< tt) (den-pos a) middle a (plus-half n (w .below))
+      (own-value 52 (lit≤ tt) a s) in
       (λ h. next (yes h), λ h. same (no h))
     where
       next : (n * 2 + 1 * 1) * den a ≤ num a * (1 * 2) → n + 1 ≡ halfBy (num a) (den a)
-      next l = ap (λ (x : ℕ). x + 1) (w .same) ∙ sym (half-next (num a) (den a) (den-pos a) (subst (λ (x : ℕ). (2 * x + 1) * den a ≤ 2 * num a) (w .same) (omega arith)))
+      next l =
+          ap (λ (x : ℕ). x + 1) (w .same)
+          ∙ sym (half-next (num a) (den a) (den-pos a) (subst (λ (x : ℕ). (2 * x + 1) * den a ≤ 2 * num a) (w .same) (omega arith)))
 
       same : num a * (1 * 2) < (n * 2 + 1 * 1) * den a → n ≡ halfBy (num a) (den a)
-      same l = w .same ∙ sym (half-same (num a) (den a) (den-pos a) (subst (λ (x : ℕ). 2 * num a < (2 * x + 1) * den a) (w .same) (omega arith)))
+      same l =
+          w .same ∙ sym (half-same (num a) (den a) (den-pos a) (subst (λ (x : ℕ). 2 * num a < (2 * x + 1) * den a) (w .same) (omega arith)))
 
 -- ---- below 2 ^ k: the size a goes to the whole number r, and the sign is put back
 module _ (f : Format) (p q : ℕ → ℕ → ℕ) (k : ℕ) where
@@ -146,7 +174,8 @@ module _ (f : Format) (p q : ℕ → ℕ → ℕ) (k : ℕ) where
   plus-is (fin true m e) s t = absurd (true≢false s)
   plus-is (fin false m e) s t = refl
 
-  minus-is : (x : Float) → isNegative x ≡ true → Small k (absOf x) → neg (ofInt f (pos (q (num (absOf x)) (den (absOf x))))) ≡ wholeBy f p q x
+  minus-is : (x : Float) → isNegative x ≡ true → Small k (absOf x)
+      → neg (ofInt f (pos (q (num (absOf x)) (den (absOf x))))) ≡ wholeBy f p q x
   unfolding wholeBy absOf isNegative
   minus-is nan s t = absurd (unfold lt in t .below)
   minus-is (inf b) s t = absurd (unfold lt in t .below)
@@ -169,27 +198,34 @@ pub twice-hid : (f : Format) → 2 ^ prec f ≡ 2 * hid f
 twice-hid binary32 = refl
 twice-hid binary64 = refl
 
-fraction-lt : (f : Format) (s : Bool) (m i : ℕ) → T (fits f (fin s m (negsuc i))) → lt (fin false m (negsuc i)) (fin false 1 (pos (prec f - 1))) ≡ true
+fraction-lt : (f : Format) (s : Bool) (m i : ℕ) → T (fits f (fin s m (negsuc i)))
+    → lt (fin false m (negsuc i)) (fin false 1 (pos (prec f - 1))) ≡ true
 unfolding lt
-fraction-lt f s m i t = is-true (ltb (m * 1 * 1) (1 * hid f * 2 ^ suc i)) (lt→ltb (m * 1 * 1) (1 * hid f * 2 ^ suc i) (lt-of-lt-of-le (lt-of-le-of-lt (le-of-eq (mul-one (m * 1) ∙ mul-one m)) (digits-lt f s m (negsuc i) t)) (le-trans (le-of-eq (twice-hid f)) (wider (hid f) (2 ^ i) (2 ^ suc i) (pow-pos i) (pow-succ' 2 i)))))
+fraction-lt f s m i t =
+    is-true (ltb (m * 1 * 1) (1 * hid f * 2 ^ suc i))
+    (lt→ltb (m * 1 * 1) (1 * hid f * 2 ^ suc i)
+    (lt-of-lt-of-le (lt-of-le-of-lt (le-of-eq (mul-one (m * 1) ∙ mul-one m)) (digits-lt f s m (negsuc i) t))
+    (le-trans (le-of-eq (twice-hid f)) (wider (hid f) (2 ^ i) (2 ^ suc i) (pow-pos i) (pow-succ' 2 i)))))
   where
     wider : (h p q : ℕ) → 0 < p → q ≡ 2 * p → 2 * h ≤ 1 * h * q
     wider h p q P e = omega (arith, mul-le-mul-left (2 * h) P, ap (λ (z : ℕ). h * z) e)
 
-pub round-own : (f : Format) (m k : ℕ) → T (fits f (fin false m (pos k))) → ofInt f (pos (m * 2 ^ k)) ≡ fin false m (pos k)
+pub ofInt-own : (f : Format) (m k : ℕ) → T (fits f (fin false m (pos k))) → ofInt f (pos (m * 2 ^ k)) ≡ fin false m (pos k)
 unfolding ofInt
-round-own f m k t = round-self f (fin false m (pos k)) false (m * 2 ^ k) 1 (lit< tt) t (refl, refl)
+ofInt-own f m k t = round-self f (fin false m (pos k)) false (m * 2 ^ k) 1 (lit< tt) t (refl, refl)
 
-neg-own : (f : Format) (m k : ℕ) → T (fits f (fin true m (pos k))) → neg (ofInt f (pos (m * 2 ^ k))) ≡ fin true m (pos k)
+neg-ofInt-own : (f : Format) (m k : ℕ) → T (fits f (fin true m (pos k))) → neg (ofInt f (pos (m * 2 ^ k))) ≡ fin true m (pos k)
 unfolding ofInt
-neg-own f m k t = neg-round f false (m * 2 ^ k) 1 ∙ round-self f (fin true m (pos k)) true (m * 2 ^ k) 1 (lit< tt) t (refl, refl)
+neg-ofInt-own f m k t = neg-round f false (m * 2 ^ k) 1 ∙ round-self f (fin true m (pos k)) true (m * 2 ^ k) 1 (lit< tt) t (refl, refl)
 
-pub own-whole : (f : Format) (p q : ℕ → ℕ → ℕ) → ((a : ℕ) → p a 1 ≡ a) → ((a : ℕ) → q a 1 ≡ a) → (x : Float) → fits f x ≡ true → lt (absOf x) (fin false 1 (pos (prec f - 1))) ≡ false → x ≡ wholeBy f p q x
+pub own-whole : (f : Format) (p q : ℕ → ℕ → ℕ) → ((a : ℕ) → p a 1 ≡ a) → ((a : ℕ) → q a 1 ≡ a) → (x : Float) → fits f x ≡ true
+    → lt (absOf x) (fin false 1 (pos (prec f - 1))) ≡ false → x ≡ wholeBy f p q x
 unfolding wholeBy absOf
 own-whole f p q P Q nan t h = refl
 own-whole f p q P Q (inf s) t h = refl
-own-whole f p q P Q (fin true m (pos k)) t h = sym (ap (λ (n : ℕ). neg (ofInt f (pos n))) (Q (m * 2 ^ k)) ∙ neg-own f m k (subst T (sym t) tt))
-own-whole f p q P Q (fin false m (pos k)) t h = sym (ap (λ (n : ℕ). ofInt f (pos n)) (P (m * 2 ^ k)) ∙ round-own f m k (subst T (sym t) tt))
+own-whole f p q P Q (fin true m (pos k)) t h =
+    sym (ap (λ (n : ℕ). neg (ofInt f (pos n))) (Q (m * 2 ^ k)) ∙ neg-ofInt-own f m k (subst T (sym t) tt))
+own-whole f p q P Q (fin false m (pos k)) t h = sym (ap (λ (n : ℕ). ofInt f (pos n)) (P (m * 2 ^ k)) ∙ ofInt-own f m k (subst T (sym t) tt))
 own-whole f p q P Q (fin s m (negsuc i)) t h = absurd (true≢false (sym (fraction-lt f s m i (subst T (sym t) tt)) ∙ h))
 
 pub limit32 : ofBits binary32 1258291200 ≡ fin false 1 (pos 23)

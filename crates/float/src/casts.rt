@@ -1,4 +1,5 @@
-// Rust's `as` between numbers (IEEE 754-2019, 5.4.1 and 5.8), under names as those of `std::num`.
+// Rust's `as` between numbers (IEEE 754-2019, 5.4.1, 5.4.2 and 5.8), under names as those of
+// `std::num`.
 ghost use mathlib.Core.Path.{_≡_};
 ghost use Prim.Native.Nat.{_≤_, _<_};
 ghost use lib.IntN.{pos};

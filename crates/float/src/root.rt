@@ -50,7 +50,7 @@ fn nearest_root(n: u64) -> u64
 }
 
 // The number digits * 2 ^ power.
-pub struct Normal {
+struct Normal {
     digits: u32,
     power: u32,
 }

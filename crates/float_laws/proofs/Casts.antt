@@ -1,8 +1,10 @@
--- The saturating casts are what specs/Casts says, and nothing else is; they keep the order; and the floor of a number that is not negative casts as the number does.
+-- The saturating casts are what specs/Casts says, and nothing else is; they keep the order; and the floor of a number that is not negative
+-- casts as the number does.
 use mathlib.Core.Path.{_≡_, refl, sym, ap, _∙_, subst}
 use mathlib.Core.Bool.{Bool, true, false, not, _&&_, _||_, cond, true≢false, false≢true}
 use Prim.Native.Nat.{ℕ, _+_, _-_, _*_, _/_, _^_, _≤_, _<_, min, zero-le}
-use native.Mathlib.Nat.{le-refl, le-trans, le-of-eq, le-antisymm, lt-of-le-of-lt, lt-of-mul-lt-mul-right, mul-one, mul-le-mul-right, zero-mul, zero-div, mul-div-cancel, div-mul-le-self, eq-of-mul-eq-mul-right}
+use native.Mathlib.Nat.{le-refl, le-trans, le-of-eq, le-antisymm, lt-of-le-of-lt, lt-of-mul-lt-mul-right, mul-one, mul-le-mul-right}
+use native.Mathlib.Nat.{zero-mul, zero-div, mul-div-cancel, div-mul-le-self, eq-of-mul-eq-mul-right}
 use native.Mathlib.Omega.{arith}
 use lib.IntN.{ℤ, pos, negℤ}
 use lib.Dec.{T, eqb}
@@ -16,6 +18,7 @@ use Rattle.exact.specs.Fractions.{le-test-true}
 use Rattle.float.specs.Sign.{isNegative}
 use Rattle.float.specs.Whole.{floorOf}
 use Rattle.float.proofs.Quotients.{part-lt}
+use Rattle.exact.specs.Naturals.{le-of-not-lt}
 use Rattle.float_laws.specs.Casts.{Saturated}
 use Rattle.float_laws.proofs.Whole.{floor-is}
 
@@ -31,11 +34,8 @@ pub saturated-unique : (most a c n n' : ℕ) → Saturated most a c n → Satura
 saturated-unique most a c n n' S S' = le-antisymm (not-above n n' S S') (not-above n' n S' S)
   where
     not-above : (n n' : ℕ) → Saturated most a c n → Saturated most a c n' → n ≤ n'
-    not-above n n' S S' = not-less (λ (l : n' < n). clash n n' S S' l)
+    not-above n n' S S' = le-of-not-lt (λ (l : n' < n). clash n n' S S' l)
       where
-        not-less : {y z : ℕ} → ¬ (y < z) → z ≤ y
-        not-less h = omega arith
-
         clash : (n n' : ℕ) → Saturated most a c n → Saturated most a c n' → n' < n → ⊥
         clash n n' S S' l =
             let w = S .within in
@@ -47,7 +47,8 @@ pub unsigned-is : (w m : ℕ) (e : ℤ) → Saturated (2 ^ w - 1) (m * up e) (do
 unfolding toUnsigned
 unsigned-is w m e = saturates (m * up e) (down e) (2 ^ w - 1) (down-pos e)
 
-pub unsigned-edges : (w m : ℕ) (e : ℤ) → (toUnsigned w nan ≡ 0) × (toUnsigned w (inf true) ≡ 0) × (toUnsigned w (fin true m e) ≡ 0) × (toUnsigned w (inf false) ≡ 2 ^ w - 1)
+pub unsigned-edges : (w m : ℕ) (e : ℤ)
+    → (toUnsigned w nan ≡ 0) × (toUnsigned w (inf true) ≡ 0) × (toUnsigned w (fin true m e) ≡ 0) × (toUnsigned w (inf false) ≡ 2 ^ w - 1)
 unfolding toUnsigned
 unsigned-edges w m e = (refl, refl, refl, refl)
 
@@ -58,7 +59,8 @@ largest h s = cond s (2 ^ h) (2 ^ h - 1)
 abbrev pub signed : Bool → ℕ → ℤ
 signed s n = cond s (negℤ (pos n)) (pos n)
 
-pub signed-is : (h : ℕ) (s : Bool) (m : ℕ) (e : ℤ) → (n : ℕ) × Saturated (largest h s) (m * up e) (down e) n × (toSigned h (fin s m e) ≡ signed s n)
+pub signed-is : (h : ℕ) (s : Bool) (m : ℕ) (e : ℤ)
+    → (n : ℕ) × Saturated (largest h s) (m * up e) (down e) n × (toSigned h (fin s m e) ≡ signed s n)
 unfolding toSigned
 signed-is h true m e = (min (m * up e / down e) (2 ^ h), saturates (m * up e) (down e) (2 ^ h) (down-pos e), refl)
 signed-is h false m e = (min (m * up e / down e) (2 ^ h - 1), saturates (m * up e) (down e) (2 ^ h - 1) (down-pos e), refl)
@@ -84,7 +86,9 @@ unsigned-mono w (fin false m e) (inf false) h = cap (m * up e / down e) (2 ^ w -
   where
     cap : (a c : ℕ) → min a c ≤ c
     cap a c = omega arith
-unsigned-mono w (fin false m e) (fin true n d) h = le-trans (le-of-eq (ap (λ (x : ℕ). min (x / down e) (2 ^ w - 1)) (nothing (m * up e) (down d) (n * up d * down e) (down-pos d) h) ∙ ap (λ (x : ℕ). min x (2 ^ w - 1)) (zero-div (down e)) ∙ none (2 ^ w - 1))) zero-le
+unsigned-mono w (fin false m e) (fin true n d) h =
+    le-trans (le-of-eq (ap (λ (x : ℕ). min (x / down e) (2 ^ w - 1)) (nothing (m * up e) (down d) (n * up d * down e) (down-pos d) h)
+    ∙ ap (λ (x : ℕ). min x (2 ^ w - 1)) (zero-div (down e)) ∙ none (2 ^ w - 1))) zero-le
   where
     second : (a b : Bool) → (a && b) ≡ true → b ≡ true
     second true b h = h
@@ -96,7 +100,9 @@ unsigned-mono w (fin false m e) (fin true n d) h = le-trans (le-of-eq (ap (λ (x
     none : (w : ℕ) → min 0 w ≡ 0
     none w = omega arith
 unsigned-mono w (fin false m e) (fin false n d) h =
-    lower (m * up e / down e) (n * up d / down d) (2 ^ w - 1) (div-mono (m * up e) (down e) (n * up d) (down d) (down-pos e) (down-pos d) (le-test-true (m * up e * down d) (n * up d * down e) true h))
+    lower (m * up e / down e) (n * up d / down d) (2 ^ w - 1)
+    (div-mono (m * up e) (down e) (n * up d) (down d) (down-pos e) (down-pos d)
+    (le-test-true (m * up e * down d) (n * up d * down e) true h))
   where
     lower : (a b c : ℕ) → a ≤ b → min a c ≤ min b c
     lower a b c h = omega arith
@@ -107,16 +113,21 @@ unfolding toUnsigned
 unsigned-value w nan n h = absurd h
 unsigned-value w (inf s) n h = absurd h
 unsigned-value w (fin true m e) n h = absurd (true≢false (h .0))
-unsigned-value w (fin false m e) n h = ap (λ (x : ℕ). min (x / down e) (2 ^ w - 1)) (sym (mul-one (m * up e)) ∙ h .1) ∙ ap (λ (x : ℕ). min x (2 ^ w - 1)) (mul-div-cancel n (down-pos e))
+unsigned-value w (fin false m e) n h =
+    ap (λ (x : ℕ). min (x / down e) (2 ^ w - 1)) (sym (mul-one (m * up e)) ∙ h .1)
+    ∙ ap (λ (x : ℕ). min x (2 ^ w - 1)) (mul-div-cancel n (down-pos e))
 
-pub unsigned-floor : (w : ℕ) (x : Float) → T (finite x) → T (fits binary32 x) → isNegative x ≡ false → toUnsigned w (floorOf x) ≡ toUnsigned w x
+pub unsigned-floor : (w : ℕ) (x : Float) → T (finite x) → T (fits binary32 x) → isNegative x ≡ false
+    → toUnsigned w (floorOf x) ≡ toUnsigned w x
 unfolding isNegative
 unsigned-floor w nan r t p = absurd r
 unsigned-floor w (inf s) r t p = absurd r
 unsigned-floor w (fin true m e) r t p = absurd (true≢false p)
 unsigned-floor w (fin false m e) r t p =
     let F = floor-is (fin false m e) r t in
-    unsigned-value w (floorOf (fin false m e)) (F .n) (F .is) ∙ saturated-unique (2 ^ w - 1) (m * up e) (down e) (min (F .n) (2 ^ w - 1)) (toUnsigned w (fin false m e)) (capped (F .n) (F .plus refl .low) (F .plus refl .high)) (unsigned-is w m e)
+    unsigned-value w (floorOf (fin false m e)) (F .n) (F .is)
+    ∙ saturated-unique (2 ^ w - 1) (m * up e) (down e) (min (F .n) (2 ^ w - 1)) (toUnsigned w (fin false m e))
+    (capped (F .n) (F .plus refl .low) (F .plus refl .high)) (unsigned-is w m e)
   where
     capped : (n : ℕ) → n * down e ≤ m * up e → m * up e < (n + 1) * down e → Saturated (2 ^ w - 1) (m * up e) (down e) (min n (2 ^ w - 1))
     capped n l h = record {

@@ -1,4 +1,5 @@
--- `minOf`, `maxOf` and `clampOf` of numbers are what specs/Choose says, and nothing else is; `totalOf` is the numeric order where nothing is negative.
+-- `minOf`, `maxOf` and `clampOf` of numbers are what specs/Choose says, and nothing else is; `totalOf` is the numeric order where nothing
+-- is negative.
 use mathlib.Core.Path.{_≡_, refl, sym, ap, _∙_, subst}
 use mathlib.Core.Logic.{_⊎_, inl, inr}
 use mathlib.Core.Bool.{Bool, true, false, not, _&&_, cond, true≢false, false≢true}
@@ -9,7 +10,8 @@ use Rattle.float.specs.declared.choose.Order.the-variants.{Less, Equal, Greater
 use Rattle.float.specs.Sign.{isNegative}
 use Rattle.float.specs.Choose.{zero, levelOf, minOf, maxOf, clampOf, pick, compareBools, totalOf}
 use Rattle.float_laws.specs.Choose.{Least, Greatest, Clamped}
-use Rattle.float_laws.proofs.Compare.{less-le, equal-le, eq-self, eq-turn, neither-less, not-less, less-no-le, equal-same, zero-equal, zeros-equal}
+use Rattle.float_laws.proofs.Compare.{less-le, equal-le, eq-self, eq-turn, neither-less, not-less, less-no-le, equal-same}
+use Rattle.float_laws.proofs.Compare.{zero-equal, zeros-equal}
 
 and-true : (a b : Bool) → (a && b) ≡ true → (a ≡ true) × (b ≡ true)
 and-true true b h = (refl, h)
@@ -24,13 +26,15 @@ module _ (x y : Float) (X : T (not (isNan x))) (Y : T (not (isNan y))) where
       less-no-le x y h (equal-le y x (eq-turn x y (zeros-equal x y (b .0) (b .1))))
 
   -- where neither is less: both are zeros and plus zero is taken, or x is
-  level-cases : lt x y ≡ false → lt y x ≡ false → (((eq x zero && eq y zero) ≡ true) × (levelOf x y ≡ zero)) ⊎ (((eq x zero && eq y zero) ≡ false) × (levelOf x y ≡ x))
+  level-cases : lt x y ≡ false → lt y x ≡ false
+      → (((eq x zero && eq y zero) ≡ true) × (levelOf x y ≡ zero)) ⊎ (((eq x zero && eq y zero) ≡ false) × (levelOf x y ≡ x))
   level-cases p q = go (eq x zero) refl
     where
       picks : (b : Bool) → eq x zero ≡ b → levelOf x y ≡ cond b zero x
       picks b r = simp (is-false (isNan x) X, is-false (isNan y) Y, r)
 
-      go : (b : Bool) → eq x zero ≡ b → (((eq x zero && eq y zero) ≡ true) × (levelOf x y ≡ zero)) ⊎ (((eq x zero && eq y zero) ≡ false) × (levelOf x y ≡ x))
+      go : (b : Bool) → eq x zero ≡ b
+          → (((eq x zero && eq y zero) ≡ true) × (levelOf x y ≡ zero)) ⊎ (((eq x zero && eq y zero) ≡ false) × (levelOf x y ≡ x))
       go true r = inl (ap (λ (b : Bool). b && eq y zero) r ∙ zero-equal x y r (neither-less x y X Y p q), picks true r)
       go false r = inr (ap (λ (b : Bool). b && eq y zero) r, picks false r)
 
@@ -63,8 +67,20 @@ module _ (x y : Float) (X : T (not (isNan x))) (Y : T (not (isNan y))) where
               })
 
       go : (a b : Bool) → lt x y ≡ a → lt y x ≡ b → Least x y (cond a x (cond b y (levelOf x y)))
-      go true b p q = record { first = equal-le x x (eq-self x X); second = less-le x y p; one = λ n. inl refl; zeros = λ n. absurd (apart x y X Y p n) }
-      go false true p q = record { first = less-le y x q; second = equal-le y y (eq-self y Y); one = λ n. inr refl; zeros = λ n. absurd (apart y x Y X q (turned n)) }
+      go true b p q =
+          record {
+            first = equal-le x x (eq-self x X);
+            second = less-le x y p;
+            one = λ n. inl refl;
+            zeros = λ n. absurd (apart x y X Y p n);
+          }
+      go false true p q =
+          record {
+            first = less-le y x q;
+            second = equal-le y y (eq-self y Y);
+            one = λ n. inr refl;
+            zeros = λ n. absurd (apart y x Y X q (turned n));
+          }
         where
           turned : z ≡ true → (eq y zero && eq x zero) ≡ true
           turned n = let b = and-true (eq x zero) (eq y zero) n in ap (λ (t : Bool). t && eq x zero) (b .1) ∙ b .0
@@ -82,7 +98,14 @@ module _ (x y : Float) (X : T (not (isNan x))) (Y : T (not (isNan y))) where
           by : ((z ≡ true) × (levelOf x y ≡ zero)) ⊎ ((z ≡ false) × (levelOf x y ≡ x)) → Greatest x y (levelOf x y)
           by (inl (h, e)) =
               let b = and-true (eq x zero) (eq y zero) h in
-              subst (Greatest x y) (sym e) (record { first = equal-le x zero (b .0); second = equal-le y zero (b .1); one = λ n. absurd (true≢false (sym h ∙ n)); zeros = λ n. refl })
+              subst (Greatest x y) (sym e)
+              (record {
+                first = equal-le x zero (b .0);
+                second = equal-le y zero (b .1);
+                one = λ n. absurd
+                    (true≢false (sym h ∙ n));
+                zeros = λ n. refl;
+              })
           by (inr (h, e)) =
               subst (Greatest x y) (sym e) (record {
                 first = equal-le x x (eq-self x X);
@@ -92,8 +115,20 @@ module _ (x y : Float) (X : T (not (isNan x))) (Y : T (not (isNan y))) where
               })
 
       go : (a b : Bool) → lt y x ≡ a → lt x y ≡ b → Greatest x y (cond a x (cond b y (levelOf x y)))
-      go true b p q = record { first = equal-le x x (eq-self x X); second = less-le y x p; one = λ n. inl refl; zeros = λ n. absurd (apart y x Y X p (turned n)) }
-      go false true p q = record { first = less-le x y q; second = equal-le y y (eq-self y Y); one = λ n. inr refl; zeros = λ n. absurd (apart x y X Y q n) }
+      go true b p q =
+          record {
+            first = equal-le x x (eq-self x X);
+            second = less-le y x p;
+            one = λ n. inl refl;
+            zeros = λ n. absurd (apart y x Y X p (turned n));
+          }
+      go false true p q =
+          record {
+            first = less-le x y q;
+            second = equal-le y y (eq-self y Y);
+            one = λ n. inr refl;
+            zeros = λ n. absurd (apart x y X Y q n);
+          }
       go false false p q = level q p
 
   -- ---- of values of one format there is one such r
@@ -112,7 +147,8 @@ module _ (x y : Float) (X : T (not (isNan x))) (Y : T (not (isNan y))) where
         go (inl i) = absurd (true≢false (sym i ∙ n))
         go (inr i) = i
 
-    one-of : (r r' : Float) → z ≡ false → (T (le x y) → T (le y x) → x ≡ y) → (r ≡ x) ⊎ (r ≡ y) → (r' ≡ x) ⊎ (r' ≡ y) → (r ≡ x → r' ≡ y → T (le x y) × T (le y x)) → (r ≡ y → r' ≡ x → T (le x y) × T (le y x)) → r ≡ r'
+    one-of : (r r' : Float) → z ≡ false → (T (le x y) → T (le y x) → x ≡ y) → (r ≡ x) ⊎ (r ≡ y) → (r' ≡ x) ⊎ (r' ≡ y)
+        → (r ≡ x → r' ≡ y → T (le x y) × T (le y x)) → (r ≡ y → r' ≡ x → T (le x y) × T (le y x)) → r ≡ r'
     one-of r r' n s (inl a) (inl b) h k = a ∙ sym b
     one-of r r' n s (inr a) (inr b) h k = a ∙ sym b
     one-of r r' n s (inl a) (inr b) h k = let l = h a b in a ∙ s (l .0) (l .1) ∙ sym b
@@ -139,16 +175,38 @@ module _ (x y : Float) (X : T (not (isNan x))) (Y : T (not (isNan y))) where
             (λ a b. (subst (λ (u : Float). T (le x u)) a (G .first), subst (λ (u : Float). T (le y u)) b (G' .second)))
 
 -- ---- clamp
-pub clamp-is : (x lo hi : Float) → T (not (isNan x)) → T (not (isNan lo)) → T (not (isNan hi)) → T (le lo hi) → Clamped x lo hi (clampOf x lo hi)
+pub clamp-is : (x lo hi : Float) → T (not (isNan x)) → T (not (isNan lo)) → T (not (isNan hi)) → T (le lo hi)
+    → Clamped x lo hi (clampOf x lo hi)
 clamp-is x lo hi X L H h = go (lt x lo) refl
   where
     low : (b : Bool) → lt hi lo ≡ b → lt x lo ≡ true → Clamped x lo hi (cond b hi lo)
     low true p q = absurd (less-no-le hi lo p h)
-    low false p q = record { from = equal-le lo lo (eq-self lo L); to = h; kept = λ a b. absurd (true≢false (sym q ∙ a)); low = λ a. refl; high = λ a b. absurd (true≢false (sym q ∙ a)) }
+    low false p q =
+        record {
+          from = equal-le lo lo (eq-self lo L);
+          to = h;
+          kept = λ a b. absurd (true≢false (sym q ∙ a));
+          low = λ a. refl;
+          high = λ a b. absurd (true≢false (sym q ∙ a));
+        }
 
     mid : (b : Bool) → lt hi x ≡ b → lt x lo ≡ false → Clamped x lo hi (cond b hi x)
-    mid true p q = record { from = h; to = equal-le hi hi (eq-self hi H); kept = λ a b. absurd (true≢false (sym p ∙ b)); low = λ a. absurd (true≢false (sym a ∙ q)); high = λ a b. refl }
-    mid false p q = record { from = not-less x lo X L q; to = not-less hi x H X p; kept = λ a b. refl; low = λ a. absurd (true≢false (sym a ∙ q)); high = λ a b. absurd (true≢false (sym b ∙ p)) }
+    mid true p q =
+        record {
+          from = h;
+          to = equal-le hi hi (eq-self hi H);
+          kept = λ a b. absurd (true≢false (sym p ∙ b));
+          low = λ a. absurd (true≢false (sym a ∙ q));
+          high = λ a b. refl;
+        }
+    mid false p q =
+        record {
+          from = not-less x lo X L q;
+          to = not-less hi x H X p;
+          kept = λ a b. refl;
+          low = λ a. absurd (true≢false (sym a ∙ q));
+          high = λ a b. absurd (true≢false (sym b ∙ p));
+        }
 
     go : (b : Bool) → lt x lo ≡ b → Clamped x lo hi (clampOf x lo hi)
     go true p = rw p (low (lt hi lo) refl p)
@@ -163,10 +221,13 @@ clamp-unique x lo hi r r' C C' = go (lt x lo) (lt hi x) refl refl
     go false false p q = C .kept p q ∙ sym (C' .kept p q)
 
 -- ---- the total order
-pub total-numeric : (x y : Float) → T (not (isNan x)) → T (not (isNan y)) → isNegative x ≡ false → isNegative y ≡ false → totalOf x y ≡ pick (lt x y) Less (pick (eq x y) Equal Greater)
+pub total-numeric : (x y : Float) → T (not (isNan x)) → T (not (isNan y)) → isNegative x ≡ false → isNegative y ≡ false
+    → totalOf x y ≡ pick (lt x y) Less (pick (eq x y) Equal Greater)
 total-numeric x y X Y p q = go (lt x y) (lt y x) (eq x y) refl refl refl
   where
-    go : (a b c : Bool) → lt x y ≡ a → lt y x ≡ b → eq x y ≡ c → pick a Less (pick b Greater (pick c (compareBools (isNegative y) (isNegative x)) (compareBools (isNan x) (isNan y)))) ≡ pick a Less (pick c Equal Greater)
+    go : (a b c : Bool) → lt x y ≡ a → lt y x ≡ b → eq x y ≡ c
+        → pick a Less (pick b Greater (pick c (compareBools (isNegative y) (isNegative x)) (compareBools (isNan x) (isNan y))))
+        ≡ pick a Less (pick c Equal Greater)
     go true b c h k l = refl
     go false true true h k l = absurd (less-no-le y x k (equal-le x y l))
     go false true false h k l = refl

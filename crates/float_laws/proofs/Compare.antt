@@ -9,7 +9,7 @@ use lib.IntN.{ℤ}
 use lib.Dec.{T, ltb, eqb}
 use lib.Ieee.{Float, nan, inf, fin, Format, up, down, neg, lt, le, eq, fits, isNan, below, level}
 use lib.Ieee.Fits.{down-pos}
-use borrow.Author.Tests.{ltb-true, ltb-false, eqb-true, eq-eqb}
+use borrow.Author.Tests.{le-ltb, ltb-true, ltb-false, eqb-true, eq-eqb}
 use Rattle.exact.specs.Patterns.{one-value}
 use Rattle.float.specs.Sign.{isNegative}
 use Rattle.float.specs.Choose as choose
@@ -125,8 +125,8 @@ not-less x y X Y h = go (lt y x) refl
 
 -- what is less is not more, and not equal
 less-not : (s t : Bool) (a b : ℕ) → below s a t b ≡ true → below t b s a ≡ false
-less-not false false a b h = borrow.Author.Tests.le-ltb b a (let x = ltb-true a b h in omega arith)
-less-not true true a b h = borrow.Author.Tests.le-ltb a b (let x = ltb-true b a h in omega arith)
+less-not false false a b h = le-ltb b a (let x = ltb-true a b h in omega arith)
+less-not true true a b h = le-ltb a b (let x = ltb-true b a h in omega arith)
 less-not false true a b h = absurd (false≢true h)
 less-not true false a b h = refl
 
@@ -179,14 +179,16 @@ size-zero x d D h = eq-of-mul-eq-mul-right d D x 0 (h ∙ sym (zero-mul d))
 
 is-zero : (s : Bool) (m : ℕ) (e : ℤ) → m * up e ≡ 0 → eq (fin s m e) choose.zero ≡ true
 unfolding eq
-is-zero s m e h = level-of s false (m * up e * 1) (0 * 1 * down e) (mul-one (m * up e) ∙ h ∙ sym (zero-mul (down e))) (inr (mul-one (m * up e) ∙ h))
+is-zero s m e h =
+    level-of s false (m * up e * 1) (0 * 1 * down e) (mul-one (m * up e) ∙ h ∙ sym (zero-mul (down e))) (inr (mul-one (m * up e) ∙ h))
 
 zero-is : (s : Bool) (m : ℕ) (e : ℤ) → eq (fin s m e) choose.zero ≡ true → m * up e ≡ 0
 unfolding eq
 zero-is s m e h = sym (mul-one (m * up e)) ∙ level-is s false (m * up e * 1) (0 * 1 * down e) h .0 ∙ zero-mul (down e)
 
 -- ---- two equal numbers of a format are both zeros, or one
-pub equal-same : (f : Format) (x y : Float) → T (fits f x) → T (fits f y) → eq x y ≡ true → ((eq x choose.zero && eq y choose.zero) ≡ true) ⊎ (x ≡ y)
+pub equal-same : (f : Format) (x y : Float) → T (fits f x) → T (fits f y) → eq x y ≡ true
+    → ((eq x choose.zero && eq y choose.zero) ≡ true) ⊎ (x ≡ y)
 equal-same f nan y p q h = absurd (false≢true (unfold eq in h))
 equal-same f (inf s) nan p q h = absurd (false≢true (unfold eq in h))
 equal-same f (inf true) (inf true) p q h = inr refl
@@ -198,7 +200,8 @@ equal-same f (fin s m e) nan p q h = absurd (false≢true (unfold eq in h))
 equal-same f (fin s m e) (inf t) p q h = absurd (false≢true (unfold eq in h))
 equal-same f (fin s m e) (fin t n d) p q h = go (level-is s t (m * up e * down d) (n * up d * down e) (unfold eq in h))
   where
-    go : (m * up e * down d ≡ n * up d * down e) × ((s ≡ t) ⊎ (m * up e * down d ≡ 0)) → ((eq (fin s m e) choose.zero && eq (fin t n d) choose.zero) ≡ true) ⊎ (fin s m e ≡ fin t n d)
+    go : (m * up e * down d ≡ n * up d * down e) × ((s ≡ t) ⊎ (m * up e * down d ≡ 0))
+        → ((eq (fin s m e) choose.zero && eq (fin t n d) choose.zero) ≡ true) ⊎ (fin s m e ≡ fin t n d)
     go (i, inl j) = inr (one-value f (fin s m e) (fin t n d) s (m * up e) (down e) (down-pos e) p q (refl, refl) (sym j, sym i))
     go (i, inr z) =
         inl (ap (λ (b : Bool). b && eq (fin t n d) choose.zero) (is-zero s m e (size-zero (m * up e) (down d) (down-pos d) z))
@@ -258,7 +261,8 @@ neg-le x y h = go (le-cases x y h)
     equal (inf s) (fin t n d) h = absurd (false≢true (unfold eq in h))
     equal (fin s m e) nan h = absurd (false≢true (unfold eq in h))
     equal (fin s m e) (inf t) h = absurd (false≢true (unfold eq in h))
-    equal (fin s m e) (fin t n d) h = unfold eq neg in level-turn s t (not s) (not t) (m * up e * down d) (n * up d * down e) (λ i. ap not (sym i)) (unfold eq in h)
+    equal (fin s m e) (fin t n d) h =
+        unfold eq neg in level-turn s t (not s) (not t) (m * up e * down d) (n * up d * down e) (λ i. ap not (sym i)) (unfold eq in h)
 
     go : (lt x y ≡ true) ⊎ (eq x y ≡ true) → T (le (neg y) (neg x))
     go (inl k) = less-le (neg y) (neg x) (less x y k)

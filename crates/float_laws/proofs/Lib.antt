@@ -1,5 +1,5 @@
 -- The definitions of `float` are what specs/ says, and nothing else is.
-pub mod Kept
+pub mod Others
 pub mod Reach
 pub mod Nearest
 pub mod Compare

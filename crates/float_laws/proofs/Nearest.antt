@@ -1,4 +1,5 @@
--- `round f` gives the nearest value, and of two the even one (`round-nearest`), or an infinity from `reach` on (`round-over`); and no other value is nearest (`nearest-unique`).
+-- `round f` gives the nearest value, and of two the even one (`round-nearest`), or an infinity from `reach` on (`round-over`); and no other
+-- value is nearest (`nearest-unique`).
 use mathlib.Core.Path.{_≡_, sym, ap, _∙_, subst}
 use mathlib.Core.Logic.{_⊎_, inl, inr}
 use mathlib.Core.Bool.{Bool, false, not}
@@ -9,14 +10,16 @@ use lib.Dec.{T}
 use lib.Pow.{pow-pos}
 use lib.Ieee.{Float, nan, inf, fin, Format, binary32, binary64, prec, low, hid, ones, top, units, round, isNan, ofBits, toBits}
 use lib.Ieee.Scale.{overflow}
-use lib.Ieee.Fits.{round-is, round-fits}
+use lib.Ieee.Fits.{round-is, round-fits, two, two-le-pos}
+use lib.Ieee.Order.{drop}
 use lib.Ieee.Bits.{toBits-ofBits, ofBits-fits}
 use lib.Ieee.Exact.{HasValue, units-val}
 use lib.Ieee.Nearest.{closest}
-use Rattle.exact.specs.Naturals.{lt-or-le}
+use Rattle.exact.specs.Naturals.{le-of-not-lt, lt-or-le}
 use Rattle.exact.specs.Patterns.{unitsOf, units-lt, bits-value, one-value, toBits-units, pattern-of, units-over}
 use Rattle.float_laws.specs.Nearest.{Units, Nearest, reach, InReach}
-use Rattle.float_laws.proofs.Kept.{Kept, kept, dropped, past-lower, before-higher, even-lower, even-higher}
+use Rattle.exact.specs.Rounding.{Kept, kept-is}
+use Rattle.float_laws.proofs.Others.{past-lower, before-higher, even-lower, even-higher}
 use Rattle.float_laws.proofs.Reach.{in-reach, out-of-reach, few-steps}
 
 value-no-nan : (v : Float) (s : Bool) (a c : ℕ) → HasValue v s a c → T (not (isNan v))
@@ -31,13 +34,13 @@ module _ (f : Format) (num den : ℕ) (D : 0 < den) where
   n = num * 2 ^ low f
 
   abbrev k : ℕ
-  k = dropped f n den D
+  k = drop (prec f) n den
 
   abbrev q : ℕ
   q = closest n (den * 2 ^ k)
 
-  K : Kept f n den q k
-  K = kept f n den D
+  K : Kept (prec f) n den q k
+  K = kept-is (prec f) n den (two-le-pos (prec f) (two f)) D
 
   is-units : round f false num den ≡ units f false q k
   is-units = round-is f false num den
@@ -58,7 +61,8 @@ module _ (f : Format) (num den : ℕ) (D : 0 < den) where
     pattern : toBits f (round f false num den) ≡ k * hid f + q
     pattern =
         ap (toBits f) (sym same)
-        ∙ toBits-ofBits f (k * hid f + q) (bound f (few-steps f n den q k D K l) (K .most)) (subst (λ (x : Float). T (not (isNan x))) (sym same) (value-no-nan (round f false num den) false (q * 2 ^ k) (2 ^ low f) is-value))
+        ∙ toBits-ofBits f (k * hid f + q) (bound f (few-steps f n den q k D K l) (K .most))
+        (subst (λ (x : Float). T (not (isNan x))) (sym same) (value-no-nan (round f false num den) false (q * 2 ^ k) (2 ^ low f) is-value))
       where
         bound : (f : Format) {q k : ℕ} → k ≤ ones f - 2 → q ≤ 2 ^ prec f → k * hid f + q < 2 * top f
         bound binary32 a b = omega arith
@@ -110,17 +114,20 @@ module _ (f : Format) (num den : ℕ) (D : 0 < den) where
       let m : suc b < b' = omega arith in
       let lo : g < unitsOf f (suc b) = subst (λ (x : ℕ). x < unitsOf f (suc b)) (p .1) (units-lt f b (suc b) (omega arith)) in
       let hi : unitsOf f (suc b) < g' = subst (λ (x : ℕ). unitsOf f (suc b) < x) (p' .1) (units-lt f (suc b) b' m) in
-      let far = N .from-higher (ofBits f (suc b)) (unitsOf f (suc b)) (ofBits-fits f (suc b)) (bits-value f (suc b) (lt-of-lt-of-le m (le-of-lt (p' .0)))) lo in
-      lt-irrefl (2 * (num * 2 ^ low f)) (lt-of-le-of-lt far (lt-of-lt-of-le (mul-lt-mul-of-pos-right {m = unitsOf f (suc b) + g} {n = g' + g} (omega arith) D) (le-of-eq (sym tie))))
+      let far =
+      N .from-higher (ofBits f (suc b)) (unitsOf f (suc b)) (ofBits-fits f (suc b))
+      (bits-value f (suc b) (lt-of-lt-of-le m (le-of-lt (p' .0)))) lo in
+      lt-irrefl (2 * (num * 2 ^ low f))
+      (lt-of-le-of-lt far (lt-of-lt-of-le (mul-lt-mul-of-pos-right {m = unitsOf f (suc b) + g} {n = g' + g} (omega arith) D)
+      (le-of-eq (sym tie))))
     where
       le-of-lt : {x y : ℕ} → x < y → x ≤ y
       le-of-lt h = omega arith
 
   pub nearest-unique : (r r' : Float) (g g' : ℕ) → Nearest f num den r g → Nearest f num den r' g' → r ≡ r'
-  nearest-unique r r' g g' N N' = one-value f r r' false g (2 ^ low f) (pow-pos (low f)) (N .held) (N' .held) (N .is) (subst (λ (x : ℕ). Units f r' x) (sym same-count) (N' .is))
+  nearest-unique r r' g g' N N' =
+      one-value f r r' false g (2 ^ low f) (pow-pos (low f)) (N .held) (N' .held) (N .is)
+      (subst (λ (x : ℕ). Units f r' x) (sym same-count) (N' .is))
     where
-      not-less : {y z : ℕ} → ¬ (y < z) → z ≤ y
-      not-less h = omega arith
-
       same-count : g ≡ g'
-      same-count = le-antisymm (not-less (λ (l : g' < g). clash r' r g' g N' N l)) (not-less (λ (l : g < g'). clash r r' g g' N N' l))
+      same-count = le-antisymm (le-of-not-lt (λ (l : g' < g). clash r' r g' g N' N l)) (le-of-not-lt (λ (l : g < g'). clash r r' g g' N N' l))

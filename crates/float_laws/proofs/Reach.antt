@@ -2,30 +2,28 @@
 use mathlib.Core.Path.{_≡_, refl, sym, ap, _∙_, subst}
 use mathlib.Core.Logic.{_⊎_, inl, inr}
 use Prim.Native.Nat.{ℕ, _+_, _-_, _*_, _%_, _^_, _≤_, _<_}
-use native.Mathlib.Nat.{le-trans, le-of-eq, le-antisymm, lt-of-lt-of-le, lt-of-not-le, not-le-of-lt, mul-le-mul, mul-le-mul-left, mul-le-mul-right, mul-lt-mul-of-pos-right, le-of-mul-le-mul-right, pow-succ'}
+use native.Mathlib.Nat.{le-trans, le-of-eq, le-antisymm, lt-of-lt-of-le, lt-of-not-le, not-le-of-lt, mul-le-mul, mul-le-mul-left}
+use native.Mathlib.Nat.{mul-le-mul-right, mul-lt-mul-of-pos-right, le-of-mul-le-mul-right, pow-succ'}
 use native.Mathlib.Omega.{arith}
 use lib.Dec.{lit≤}
 use lib.Pow.{pow-pos, pow-mono}
 use lib.Ieee.{Format, binary32, binary64, prec, hid, ones}
 use lib.Ieee.Scale.{overflow}
 use Rattle.exact.specs.Naturals.{lt-or-le}
+use Rattle.float.proofs.Wholes.{twice-hid}
 use Rattle.float_laws.specs.Nearest.{reach}
-use Rattle.float_laws.proofs.Kept.{Kept}
+use Rattle.exact.specs.Rounding.{Kept}
 
 -- ---- the numbers of a format
 overflow-is : (f : Format) → overflow f ≡ 2 ^ prec f * 2 ^ (ones f - 2)
 overflow-is binary32 = refl
 overflow-is binary64 = refl
 
-digits : (f : Format) → 2 ^ prec f ≡ 2 * hid f
-digits binary32 = refl
-digits binary64 = refl
-
 large-hid : (f : Format) → 2 ≤ hid f
 large-hid binary32 = lit≤ tt
 large-hid binary64 = lit≤ tt
 
-module _ (f : Format) (n den q k : ℕ) (D : 0 < den) (K : Kept f n den q k) where
+module _ (f : Format) (n den q k : ℕ) (D : 0 < den) (K : Kept (prec f) n den q k) where
   abbrev h : ℕ
   h = hid f
 
@@ -33,7 +31,7 @@ module _ (f : Format) (n den q k : ℕ) (D : 0 < den) (K : Kept f n den q k) whe
   c = ones f - 2
 
   most : q ≤ 2 * h
-  most = le-trans (K .most) (le-of-eq (digits f))
+  most = le-trans (K .most) (le-of-eq (twice-hid f))
 
   -- twice 2 ^ c from c + 1 steps on
   above : c < k → 2 * 2 ^ c ≤ 2 ^ k
@@ -56,6 +54,13 @@ module _ (f : Format) (n den q k : ℕ) (D : 0 < den) (K : Kept f n den q k) whe
       go (inl x) y = inl x
       go (inr x) (inl y) = inr (inr y)
       go (inr x) (inr y) = inr (inl (le-antisymm y x))
+
+  -- h or more of more than 2 ^ c
+  beyond : c < k → 2 * h * 2 ^ c ≤ q * 2 ^ k
+  beyond l = more (2 ^ c) (2 ^ k) (above l) (K .least (positive (le-trans (omega arith) l)))
+    where
+      more : (x y : ℕ) → 2 * x ≤ y → h ≤ q → 2 * h * x ≤ q * y
+      more x y a b = le-trans (let g : 2 * h * x ≤ h * y = omega (arith, mul-le-mul-left h a) in g) (mul-le-mul-right y b)
 
   -- ---- with 2 * h for 2 ^ prec and o for 4 * h - 1
   abbrev Far : Type 0
@@ -100,7 +105,8 @@ module _ (f : Format) (n den q k : ℕ) (D : 0 < den) (K : Kept f n den q k) whe
       none o x y e H Q l Y s = omega (arith, ap (λ (z : ℕ). z * y) e, mul-le-mul-left o l, mul-le-mul-right y Q, mul-le-mul-right y H)
 
       -- in the middle the even one is taken, which 2 * h - 1 is not
-      tied : (o x : ℕ) → o + 1 ≡ 4 * h → q + 1 ≡ 2 * h → n * 2 ≤ q * (den * x) * 2 + den * x → o * x * den ≤ 2 * n → n * 2 ≡ q * (den * x) * 2 + den * x
+      tied : (o x : ℕ) → o + 1 ≡ 4 * h → q + 1 ≡ 2 * h → n * 2 ≤ q * (den * x) * 2 + den * x → o * x * den ≤ 2 * n
+          → n * 2 ≡ q * (den * x) * 2 + den * x
       tied o x e g a b = le-antisymm a (omega (arith, ap (λ (z : ℕ). z * (x * den)) e, ap (λ (z : ℕ). z * (x * den)) g))
 
       not-even : q + 1 ≡ 2 * h → q % 2 ≡ 0 → ⊥
@@ -119,25 +125,28 @@ module _ (f : Format) (n den q k : ℕ) (D : 0 < den) (K : Kept f n den q k) whe
           by (inr l) = l
           by (inl l) =
               let g : q + 1 ≡ 2 * h = let x = least in omega arith in
-              absurd (not-even g (K .near .tie-under (tied (2 * (2 * h) - 1) (2 ^ k) odd g (K .near .under) (subst (λ (x : ℕ). (2 * (2 * h) - 1) * 2 ^ x * den ≤ 2 * n) (sym e) r))))
+              absurd (not-even g (K .near .tie-under
+              (tied (2 * (2 * h) - 1) (2 ^ k) odd g (K .near .under)
+              (subst (λ (x : ℕ). (2 * (2 * h) - 1) * 2 ^ x * den ≤ 2 * n) (sym e) r))))
 
       go : (k < c) ⊎ ((k ≡ c) ⊎ (c < k)) → Far
-      go (inl l) = absurd (none (2 * (2 * h) - 1) (2 ^ c) (2 ^ k) odd (large-hid f) most (below l) (pow-pos k) (near-by (2 * (2 * h) - 1) (2 ^ c) (2 ^ k) (K .near .under) r))
+      go (inl l) =
+          absurd (none (2 * (2 * h) - 1) (2 ^ c) (2 ^ k) odd (large-hid f) most (below l) (pow-pos k)
+          (near-by (2 * (2 * h) - 1) (2 ^ c) (2 ^ k) (K .near .under) r))
       go (inr (inl e)) = mul-le-mul (at e) (pow-mono (le-of-eq (sym e)))
-      go (inr (inr l)) = more (2 ^ c) (2 ^ k) (above l) (K .least (positive (le-trans (omega arith) l)))
-        where
-          more : (x y : ℕ) → 2 * x ≤ y → h ≤ q → 2 * h * x ≤ q * y
-          more x y a b = le-trans (let g : 2 * h * x ≤ h * y = omega (arith, mul-le-mul-left h a) in g) (mul-le-mul-right y b)
+      go (inr (inr l)) = beyond l
 
   -- ---- in the format's own numbers
   far-is : 2 * h * 2 ^ c ≡ overflow f
-  far-is = sym (overflow-is f ∙ ap (λ (x : ℕ). x * 2 ^ c) (digits f))
+  far-is = sym (overflow-is f ∙ ap (λ (x : ℕ). x * 2 ^ c) (twice-hid f))
 
   over-is : (2 * (2 * h) - 1) * 2 ^ c * den ≡ reach f * den
-  over-is = ap (λ (x : ℕ). (2 * x - 1) * 2 ^ c * den) (sym (digits f))
+  over-is = ap (λ (x : ℕ). (2 * x - 1) * 2 ^ c * den) (sym (twice-hid f))
 
   pub in-reach : 2 * n < reach f * den → q * 2 ^ k < overflow f
-  in-reach r = lt-of-not-le (λ (g : overflow f ≤ q * 2 ^ k). not-le-of-lt r (le-trans (le-of-eq (sym over-is)) (far-over (le-trans (le-of-eq far-is) g))))
+  in-reach r =
+      lt-of-not-le (λ (g : overflow f ≤ q * 2 ^ k). not-le-of-lt r
+      (le-trans (le-of-eq (sym over-is)) (far-over (le-trans (le-of-eq far-is) g))))
 
   pub out-of-reach : reach f * den ≤ 2 * n → overflow f ≤ q * 2 ^ k
   out-of-reach r = le-trans (le-of-eq (sym far-is)) (over-far (le-trans (le-of-eq over-is) r))
@@ -148,7 +157,4 @@ module _ (f : Format) (n den q k : ℕ) (D : 0 < den) (K : Kept f n den q k) whe
     where
       go : (c < k) ⊎ (k ≤ c) → k ≤ c
       go (inr x) = x
-      go (inl x) = absurd (not-le-of-lt l (le-trans (le-of-eq (sym far-is)) (more (2 ^ c) (2 ^ k) (above x) (K .least (positive (le-trans (omega arith) x))))))
-        where
-          more : (x y : ℕ) → 2 * x ≤ y → h ≤ q → 2 * h * x ≤ q * y
-          more x y a b = le-trans (let g : 2 * h * x ≤ h * y = omega (arith, mul-le-mul-left h a) in g) (mul-le-mul-right y b)
+      go (inl x) = absurd (not-le-of-lt l (le-trans (le-of-eq (sym far-is)) (beyond x)))

@@ -1,9 +1,12 @@
--- `sqrtOf x` is the f32 nearest to the exact root of x (`root-closest`), within half a step (`root-within-half`), and no other value is that near (`root-unique`).
+-- `sqrtOf x` is the f32 nearest to the exact root of x (`root-closest`), within half a step (`root-within-half`), and no other value is
+-- that near (`root-unique`).
 use mathlib.Core.Path.{_≡_, refl, sym, ap, _∙_, subst}
 use mathlib.Core.Logic.{_⊎_, inl, inr}
 use mathlib.Core.Bool.{false}
 use Prim.Native.Nat.{ℕ, suc, _+_, _-_, _*_, _/_, _%_, _^_, _≤_, _<_, zero-le}
-use native.Mathlib.Nat.{le-trans, le-of-eq, lt-of-lt-of-le, lt-of-le-of-lt, lt-of-not-le, not-le-of-lt, le-antisymm, mul-assoc, mul-pos, mul-le-mul, mul-le-mul-left, mul-le-mul-right, mul-lt-mul-of-pos-right, lt-of-mul-lt-mul-right, add-mul, mul-mul-mul-comm}
+use native.Mathlib.Nat.{le-trans, le-of-eq, lt-of-lt-of-le, lt-of-le-of-lt, lt-of-not-le, not-le-of-lt, le-antisymm, mul-assoc, mul-pos}
+use native.Mathlib.Nat.{mul-le-mul, mul-le-mul-left, mul-le-mul-right, mul-lt-mul-of-pos-right, lt-of-mul-lt-mul-right, add-mul}
+use native.Mathlib.Nat.{mul-mul-mul-comm}
 use native.Mathlib.Omega.{arith}
 use lib.Dec.{T, lit<}
 use lib.Pow.{pow-add, pow-pos, pow-mono, shl-lt}
@@ -12,7 +15,7 @@ use lib.Ieee.Digits.{size-lt, size-le, size-reaches}
 use lib.Ieee.Exact.{units-val}
 use lib.Ieee.Positive.{first-pos}
 use lib.Ieee.Bits.{ofBits-fits}
-use Rattle.exact.specs.Naturals.{lt-or-le, size-gt}
+use Rattle.exact.specs.Naturals.{le-of-not-lt, lt-or-le, size-gt}
 use Rattle.exact.specs.Fits.{Representable, representable, whole-steps}
 use Rattle.exact.specs.Patterns.{one-value}
 use Rattle.float.specs.Root.{whole, sqrtOf}
@@ -66,13 +69,17 @@ form n R N = (m * 2 ^ (24 - s), j + 125 + s, record { same = same; least = least
     before h = omega arith
 
     least : 8388608 ≤ m * 2 ^ (24 - s)
-    least = le-trans (le-of-eq (ap (λ (x : ℕ). 2 ^ x) (up-to s-pos s-le) ∙ pow-add 2 (s - 1) (24 - s))) (mul-le-mul-right (2 ^ (24 - s)) (size-reaches m (s - 1) (before s-pos)))
+    least =
+        le-trans (le-of-eq (ap (λ (x : ℕ). 2 ^ x) (up-to s-pos s-le) ∙ pow-add 2 (s - 1) (24 - s)))
+        (mul-le-mul-right (2 ^ (24 - s)) (size-reaches m (s - 1) (before s-pos)))
 
     most : m * 2 ^ (24 - s) < 16777216
     most = lt-of-lt-of-le (shl-lt s (24 - s) (size-lt m)) (le-of-eq (ap (λ (x : ℕ). 2 ^ x) (whole-24 s-le)))
 
     to : j + 125 + s ≤ 402
-    to = less (lt-of-not-le (λ (g : 403 ≤ j + 125 + s). not-le-of-lt (lt-of-le-of-lt (le-of-eq same) (mul-lt-mul-of-pos-right (R .below) (pow-pos 149))) (mul-le-mul least (pow-mono g))))
+    to =
+        less (lt-of-not-le (λ (g : 403 ≤ j + 125 + s). not-le-of-lt
+        (lt-of-le-of-lt (le-of-eq same) (mul-lt-mul-of-pos-right (R .below) (pow-pos 149))) (mul-le-mul least (pow-mono g))))
       where
         less : j + 125 + s < 403 → j + 125 + s ≤ 402
         less g = omega arith
@@ -84,8 +91,28 @@ square v m a F = go (lt-or-le (a % 2) 1)
     few = let h = F .to in omega arith
 
     go : (a % 2 < 1) ⊎ (1 ≤ a % 2) → (n : ℕ) × (k : ℕ) × Square v n k × (k ≤ 189)
-    go (inl h) = let l = F .from in (m * 16777216, (a - 23) / 2, record { same = regroup m 16777216 24 ((a - 23) / 2) a refl (omega arith) ∙ F .same; wide = let x = F .least in let y = F .most in omega arith }, few)
-    go (inr h) = let l = F .from in (m * 8388608, (a - 23) / 2, record { same = regroup m 8388608 23 ((a - 23) / 2) a refl (omega arith) ∙ F .same; wide = let x = F .least in let y = F .most in omega arith }, few)
+    go (inl h) =
+        let l = F .from in (
+          m * 16777216,
+          (a - 23) / 2,
+          record {
+            same = regroup m 16777216 24 ((a - 23) / 2) a refl (omega arith)
+                ∙ F .same;
+            wide = let x = F .least in let y = F .most in omega arith;
+          },
+          few,
+        )
+    go (inr h) =
+        let l = F .from in (
+          m * 8388608,
+          (a - 23) / 2,
+          record {
+            same = regroup m 8388608 23 ((a - 23) / 2) a refl (omega arith)
+                ∙ F .same;
+            wide = let x = F .least in let y = F .most in omega arith;
+          },
+          few,
+        )
 
 nearest-of : (n : ℕ) → Wide n → (r : ℕ) × Nearest n r
 nearest-of n W = pick (whole (size n) n) (whole-size n)
@@ -112,7 +139,9 @@ module _ (n s k r : ℕ) (S : Square n s k) (R : Nearest s r) where
   four = let e = S .same in omega arith
 
   lower : (2 * r - 1) * 2 ^ k * ((2 * r - 1) * 2 ^ k) < 4 * n
-  lower = lt-of-le-of-lt (le-of-eq (mul-mul-mul-comm (2 * r - 1) (2 ^ k) (2 * r - 1) (2 ^ k))) (lt-of-lt-of-le (mul-lt-mul-of-pos-right (smaller (2 * r - 1) odd) p-pos) (le-of-eq four))
+  lower =
+      lt-of-le-of-lt (le-of-eq (mul-mul-mul-comm (2 * r - 1) (2 ^ k) (2 * r - 1) (2 ^ k)))
+      (lt-of-lt-of-le (mul-lt-mul-of-pos-right (smaller (2 * r - 1) odd) p-pos) (le-of-eq four))
     where
       odd : 2 * r - 1 + 1 ≡ 2 * r
       odd = let l = R .least in omega arith
@@ -121,14 +150,18 @@ module _ (n s k r : ℕ) (S : Square n s k) (R : Nearest s r) where
       smaller t e = let d : (t + 1) * (t + 1) ≡ 2 * r * (2 * r) = ap (λ (x : ℕ). x * x) e in let h = R .low in omega arith
 
   upper : 4 * n < (2 * r + 1) * 2 ^ k * ((2 * r + 1) * 2 ^ k)
-  upper = lt-of-le-of-lt (le-of-eq (sym four)) (lt-of-lt-of-le (mul-lt-mul-of-pos-right (let h = R .high in omega arith) p-pos) (le-of-eq (sym (mul-mul-mul-comm (2 * r + 1) (2 ^ k) (2 * r + 1) (2 ^ k)))))
+  upper =
+      lt-of-le-of-lt (le-of-eq (sym four))
+      (lt-of-lt-of-le (mul-lt-mul-of-pos-right (let h = R .high in omega arith) p-pos)
+      (le-of-eq (sym (mul-mul-mul-comm (2 * r + 1) (2 ^ k) (2 * r + 1) (2 ^ k)))))
 
   at-edge : r ≡ 8388608 → r * 2 ^ k * (r * 2 ^ k) ≤ n
   at-edge e =
       le-trans (le-of-eq (mul-mul-mul-comm r (2 ^ k) r (2 ^ k)))
       (le-trans (mul-le-mul-right (2 ^ k * 2 ^ k) (subst (λ (x : ℕ). x * x ≤ s) (sym e) (S .wide .least))) (le-of-eq (S .same)))
 
-pub root-within-half : (x : Float) (n : ℕ) → T (fits binary32 x) → Units binary32 x n → 0 < n → (r : ℕ) × (k : ℕ) × WithinHalf (n * 2 ^ 149) (sqrtOf x) r k
+pub root-within-half : (x : Float) (n : ℕ) → T (fits binary32 x) → Units binary32 x n → 0 < n
+    → (r : ℕ) × (k : ℕ) × WithinHalf (n * 2 ^ 149) (sqrtOf x) r k
 root-within-half x n t h N =
     let F = form n (representable binary32 x false n t h) N in
     let Q = square (n * 2 ^ 149) (F .0) (F .1) (F .2) in
@@ -142,8 +175,10 @@ root-within-half x n t h N =
       r,
       k,
       record {
-        is = subst (λ (v : Float). Units binary32 v (r * 2 ^ k)) (sym e) (units-val binary32 false r k (lt-of-le-of-lt (mul-le-mul (R .most) (pow-mono (Q .3))) (lit< tt)));
-        held = subst (λ (v : Float). T (fits binary32 v)) (root-pattern k r (R .least) (R .most) (Q .3) ∙ sym e) (ofBits-fits binary32 (k * 8388608 + r));
+        is = subst (λ (v : Float). Units binary32 v (r * 2 ^ k)) (sym e)
+            (units-val binary32 false r k (lt-of-le-of-lt (mul-le-mul (R .most) (pow-mono (Q .3))) (lit< tt)));
+        held = subst (λ (v : Float). T (fits binary32 v)) (root-pattern k r (R .least) (R .most) (Q .3) ∙ sym e)
+            (ofBits-fits binary32 (k * 8388608 + r));
         least = R .least;
         most = R .most;
         past-lower = lower (n * 2 ^ 149) s k r S R;
@@ -171,7 +206,8 @@ module _ (n : ℕ) (x : Float) (r k : ℕ) (W : WithinHalf n x r k) (v : Float) 
       go (inl y) = le-trans (let z : a ≤ 8388608 * 2 ^ k = omega arith in z) (mul-le-mul-right (2 ^ k) (less 8388608 l))
       go (inr y) =
           let c = steps y in
-          le-trans (le-of-eq (c .1)) (mul-le-mul-right (2 ^ k) (less (c .0) (lt-of-mul-lt-mul-right (2 ^ k) (lt-of-le-of-lt (le-of-eq (sym (c .1))) g))))
+          le-trans (le-of-eq (c .1))
+          (mul-le-mul-right (2 ^ k) (less (c .0) (lt-of-mul-lt-mul-right (2 ^ k) (lt-of-le-of-lt (le-of-eq (sym (c .1))) g))))
 
   following : r * 2 ^ k < a → (r + 1) * 2 ^ k ≤ a
   following g =
@@ -200,7 +236,9 @@ module _ (n : ℕ) (x : Float) (r k : ℕ) (W : WithinHalf n x r k) (v : Float) 
 
       go : (8388608 < r) ⊎ (r ≤ 8388608) → (a + r * 2 ^ k) * (a + r * 2 ^ k) < 4 * n
       go (inl l) = lt-of-le-of-lt (square-le (a + r * 2 ^ k) ((2 * r - 1) * 2 ^ k) (sum (2 ^ k) l (previous l g))) (W .past-lower)
-      go (inr l) = lt-of-lt-of-le (square-lt (a + r * 2 ^ k) (2 * (r * 2 ^ k)) (twice (r * 2 ^ k) g)) (four' (r * 2 ^ k) (W .not-below (le-antisymm l (W .least))))
+      go (inr l) =
+          lt-of-lt-of-le (square-lt (a + r * 2 ^ k) (2 * (r * 2 ^ k)) (twice (r * 2 ^ k) g))
+          (four' (r * 2 ^ k) (W .not-below (le-antisymm l (W .least))))
 
   nearer-than-higher : r * 2 ^ k < a → 4 * n < (a + r * 2 ^ k) * (a + r * 2 ^ k)
   nearer-than-higher g = lt-of-lt-of-le (W .below-upper) (square-le ((2 * r + 1) * 2 ^ k) (a + r * 2 ^ k) (sum (2 ^ k) (following g)))
@@ -208,7 +246,8 @@ module _ (n : ℕ) (x : Float) (r k : ℕ) (W : WithinHalf n x r k) (v : Float) 
       sum : (p : ℕ) → (r + 1) * p ≤ a → (2 * r + 1) * p ≤ a + r * p
       sum p e = omega arith
 
-pub root-closest : (x : Float) (n : ℕ) → T (fits binary32 x) → Units binary32 x n → 0 < n → (g : ℕ) × Units binary32 (sqrtOf x) g × Closest (n * 2 ^ 149) g
+pub root-closest : (x : Float) (n : ℕ) → T (fits binary32 x) → Units binary32 x n → 0 < n
+    → (g : ℕ) × Units binary32 (sqrtOf x) g × Closest (n * 2 ^ 149) g
 root-closest x n t h N =
     let C = root-within-half x n t h N in
     let r = C .0 in
@@ -222,18 +261,20 @@ root-closest x n t h N =
       },
     )
 
-pub root-unique : (x r : Float) (n g : ℕ) → T (fits binary32 x) → T (fits binary32 r) → Units binary32 x n → 0 < n → Units binary32 r g → Closest (n * 2 ^ 149) g → r ≡ sqrtOf x
+pub root-unique : (x r : Float) (n g : ℕ) → T (fits binary32 x) → T (fits binary32 r) → Units binary32 x n → 0 < n → Units binary32 r g
+    → Closest (n * 2 ^ 149) g → r ≡ sqrtOf x
 root-unique x r n g t u h N i C =
     let D = root-within-half x n t h N in
     let f = D .0 * 2 ^ (D .1) in
     let W = D .2 in
-    let no-less : ¬ (g < f) = λ (l : g < f). clash g f (4 * (n * 2 ^ 149)) (nearer-than-lower (n * 2 ^ 149) (sqrtOf x) (D .0) (D .1) W r g u i l) (C .from-higher (sqrtOf x) f (W .held) (W .is) l) in
-    let no-more : ¬ (f < g) = λ (l : f < g). clash f g (4 * (n * 2 ^ 149)) (C .from-lower (sqrtOf x) f (W .held) (W .is) l) (nearer-than-higher (n * 2 ^ 149) (sqrtOf x) (D .0) (D .1) W r g u i l) in
-    let same : g ≡ f = le-antisymm (not-less no-more) (not-less no-less) in
+    let no-less : ¬ (g < f) =
+    λ (l : g < f). clash g f (4 * (n * 2 ^ 149)) (nearer-than-lower (n * 2 ^ 149) (sqrtOf x) (D .0) (D .1) W r g u i l)
+    (C .from-higher (sqrtOf x) f (W .held) (W .is) l) in
+    let no-more : ¬ (f < g) =
+    λ (l : f < g). clash f g (4 * (n * 2 ^ 149)) (C .from-lower (sqrtOf x) f (W .held) (W .is) l)
+    (nearer-than-higher (n * 2 ^ 149) (sqrtOf x) (D .0) (D .1) W r g u i l) in
+    let same : g ≡ f = le-antisymm (le-of-not-lt no-more) (le-of-not-lt no-less) in
     one-value binary32 r (sqrtOf x) false f (2 ^ 149) (pow-pos 149) u (W .held) (subst (λ (z : ℕ). Units binary32 r z) same i) (W .is)
   where
     clash : (a b m : ℕ) → (a + b) * (a + b) < m → m < (b + a) * (b + a) → ⊥
     clash a b m p q = omega arith
-
-    not-less : {y z : ℕ} → ¬ (y < z) → z ≤ y
-    not-less l = omega arith

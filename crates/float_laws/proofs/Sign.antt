@@ -45,14 +45,18 @@ abs-unique x r r' S S' = go (S .one) (S' .one)
 sizes : (f : Format) (s : Bool) (a c : ℕ) → round f s (1 * 1 * a) (1 * c) ≡ round f s a c
 sizes f s a c = ap (λ (x : ℕ). round f s x (1 * c)) (one-mul a) ∙ ap (round f s a) (one-mul c)
 
-times : (f : Format) (s : Bool) (x : Float) → T (fits f x) → T (not (isNan x)) → mul f (fin s 1 (pos 0)) (absOf x) ≡ cond s (neg (absOf x)) (absOf x)
+times : (f : Format) (s : Bool) (x : Float) → T (fits f x) → T (not (isNan x))
+    → mul f (fin s 1 (pos 0)) (absOf x) ≡ cond s (neg (absOf x)) (absOf x)
 unfolding absOf mul neg isNan
 times f s nan t n = absurd n
 times f true (inf r) t n = refl
 times f false (inf r) t n = refl
 times f true (fin r m e) t n =
-    sizes f true (m * up e) (down e) ∙ sym (neg-round f false (m * up e) (down e)) ∙ ap neg (round-self f (fin false m e) false (m * up e) (down e) (down-pos e) (abs-fits f (fin r m e) t) (refl, refl))
-times f false (fin r m e) t n = sizes f false (m * up e) (down e) ∙ round-self f (fin false m e) false (m * up e) (down e) (down-pos e) (abs-fits f (fin r m e) t) (refl, refl)
+    sizes f true (m * up e) (down e) ∙ sym (neg-round f false (m * up e) (down e))
+    ∙ ap neg (round-self f (fin false m e) false (m * up e) (down e) (down-pos e) (abs-fits f (fin r m e) t) (refl, refl))
+times f false (fin r m e) t n =
+    sizes f false (m * up e) (down e)
+    ∙ round-self f (fin false m e) false (m * up e) (down e) (down-pos e) (abs-fits f (fin r m e) t) (refl, refl)
 
 signum-form : (x : Float) → T (not (isNan x)) → signumOf x ≡ fin (isNegative x) 1 (pos 0)
 unfolding signumOf isNegative isNan
@@ -78,4 +82,6 @@ signum-unique f x r r' t n S S' = S .unit ∙ ap (λ (s : Bool). fin s 1 (pos 0)
     minus false (fin r m e) n = unfold isNegative absOf in refl
 
     sign : {q : Float} (Q : Signum f x q) → Q .s ≡ isNegative x
-    sign Q = sym (minus (Q .s) x n) ∙ ap isNegative (sym (times f (Q .s) x t n) ∙ ap (λ (r : Float). mul f r (absOf x)) (sym (Q .unit)) ∙ Q .product)
+    sign Q =
+        sym (minus (Q .s) x n)
+        ∙ ap isNegative (sym (times f (Q .s) x t n) ∙ ap (λ (r : Float). mul f r (absOf x)) (sym (Q .unit)) ∙ Q .product)

@@ -1,4 +1,5 @@
--- Nearest in a format, and of two values as near the one with an even last digit (IEEE 754-2019, 4.3.1). A unit is the format's smallest value, 2 ^ -low: every finite value is a whole number of units.
+-- Nearest in a format, and of two values as near the one with an even last digit (IEEE 754-2019, 4.3.1). A unit is the format's smallest
+-- value, 2 ^ -low: every finite value is a whole number of units.
 use mathlib.Core.Path.{_≡_}
 use mathlib.Core.Bool.{false}
 use Prim.Native.Nat.{ℕ, _+_, _-_, _*_, _%_, _^_, _≤_, _<_}
@@ -10,7 +11,8 @@ use lib.Ieee.Exact.{HasValue}
 abbrev pub Units : Format → Float → ℕ → Type 0
 Units f v n = HasValue v false n (2 ^ low f)
 
--- r, which is g units, is nearest to num / den: every other value of the format, of a units, is at least as far, since num / den is on r's side of their middle, (a + g) / 2 units, or in it.
+-- r, which is g units, is nearest to num / den: every other value of the format, of a units, is at least as far, since num / den is on r's
+-- side of their middle, (a + g) / 2 units, or in it.
 -- In the middle the pattern of r is even.
 pub record Nearest (f : Format) (num den : ℕ) (r : Float) (g : ℕ) : Type 0 where
   pub is : Units f r g

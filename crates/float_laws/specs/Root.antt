@@ -5,7 +5,8 @@ use lib.Dec.{T}
 use lib.Ieee.{Float, binary32, fits}
 use Rattle.float_laws.specs.Nearest.{Units}
 
--- √n is nearer to g than to any other number a of units that is an f32: it is past the middle of a and g, (a + g) / 2, on g's side. Both sides are squared.
+-- √n is nearer to g than to any other number a of units that is an f32: it is past the middle of a and g, (a + g) / 2, on g's side. Both
+-- sides are squared.
 pub record Closest (n g : ℕ) : Type 0 where
   pub from-lower : (v : Float) (a : ℕ) → T (fits binary32 v) → Units binary32 v a → a < g → (a + g) * (a + g) < 4 * n
   pub from-higher : (v : Float) (a : ℕ) → T (fits binary32 v) → Units binary32 v a → g < a → 4 * n < (a + g) * (a + g)
