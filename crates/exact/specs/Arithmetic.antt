@@ -1,5 +1,5 @@
 -- Each operation of binary32 is one rounded fraction of the exact values (`add-frac` and the like). So a bound by an f32 survives it
--- (`add-hi` and the like), and its error is small: |k x - e| ≤ 2^-24 |e| + k / 2 for a result x of the exact e / k units (`frac-err`),
+-- (`add-lo` and the like), and its error is small: |k x - e| ≤ 2^-24 |e| + k / 2 for a result x of the exact e / k units (`frac-err`),
 -- without the k / 2 for a sum or a difference (`add-err`, `sub-err`).
 use mathlib.Core.Path.{_≡_, refl, sym, ap, _∙_, subst}
 use Prim.Native.Nat.{ℕ, _+_, _-_, _*_, _≤_, _<_}
@@ -205,17 +205,11 @@ div-err x y p q g t = frac-err (div binary32 x y) (size-of y) (ι U ⊠ val x) (
 
 -- ---- bounds by an f32 z
 module _ (x y z : Float) (p : F32 x) (q : F32 y) (r : F32 z) where
-  pub add-hi : T (finite (add binary32 x y)) → val x ⊞ val y ⊑ val z → val (add binary32 x y) ⊑ val z
-  add-hi t h = upper-bound (add binary32 x y) z 1 (val x ⊞ val y) (add-frac x y p q) r t (⊑-≈ h (≈-sym (one-times (val z))))
-
   pub add-lo : T (finite (add binary32 x y)) → val z ⊑ val x ⊞ val y → val z ⊑ val (add binary32 x y)
   add-lo t h = lower-bound (add binary32 x y) z 1 (val x ⊞ val y) (add-frac x y p q) r t (≈-⊑ (one-times (val z)) h)
 
   pub sub-hi : T (finite (sub binary32 x y)) → val x ⊟ val y ⊑ val z → val (sub binary32 x y) ⊑ val z
   sub-hi t h = upper-bound (sub binary32 x y) z 1 (val x ⊟ val y) (sub-frac x y p q) r t (⊑-≈ h (≈-sym (one-times (val z))))
-
-  pub sub-lo : T (finite (sub binary32 x y)) → val z ⊑ val x ⊟ val y → val z ⊑ val (sub binary32 x y)
-  sub-lo t h = lower-bound (sub binary32 x y) z 1 (val x ⊟ val y) (sub-frac x y p q) r t (≈-⊑ (one-times (val z)) h)
 
   pub div-hi : ι 1 ⊑ val y → T (finite (div binary32 x y)) → ι U ⊠ val x ⊑ ι (size-of y) ⊠ val z → val (div binary32 x y) ⊑ val z
   div-hi g t h = upper-bound (div binary32 x y) z (size-of y) (ι U ⊠ val x) (div-frac x y p q g) r t h

@@ -6,8 +6,8 @@
 -- * A finite f32 is an integer number of units of 2 ^ -149 (Values: `val`, `mag-is`).
 -- * x < y, x = y and x ≤ y of f32 are those of the values, so -0 equals 0 (Order).
 -- * Rounding is monotone (Monotone: `round-mono-signed`), and bounds by an f32 survive it (`upper-bound`, `lower-bound`).
--- * The error of a sum and of a difference is at most 2 ^ -24 of the exact result; that of a product and of a quotient too, and half a
---   unit (Arithmetic: `add-err`, `sub-err`, `mul-err`, `div-err`).
+-- * Where the result is finite, the error of a sum and of a difference is at most 2 ^ -24 of the exact result; that of a product and of a
+--   quotient by a number above zero too, and half a unit (Arithmetic: `add-err`, `sub-err`, `mul-err`, `div-err`).
 -- * Sums of values that are not negative stop growing, but are monotone, no smaller than the first summand, and bounded (Sums).
 
 -- small facts on natural numbers

@@ -32,7 +32,7 @@ unitsOf f b = cond (ltb b (hid f)) b ((hid f + b % hid f) * 2 ^ (b / hid f - 1))
 hid-pos : (f : Format) → 0 < hid f
 hid-pos f = pow-pos (prec f - 1)
 
-twice-hid : (f : Format) → 2 ^ prec f ≡ hid f + hid f
+pub twice-hid : (f : Format) → 2 ^ prec f ≡ 2 * hid f
 twice-hid binary32 = refl
 twice-hid binary64 = refl
 
@@ -174,16 +174,16 @@ full-units f k r lo hi = go (lt-or-le r (2 ^ prec f))
     split : (h : ℕ) → h ≤ r → k * h + r ≡ suc k * h + (r - h)
     split h l = omega arith
 
-    less : (p h : ℕ) → p ≡ h + h → h ≤ r → r < p → r - h < h
+    less : (p h : ℕ) → p ≡ 2 * h → h ≤ r → r < p → r - h < h
     less p h e l g = omega arith
 
     all : (h : ℕ) → h ≤ r → h + (r - h) ≡ r
     all h l = omega arith
 
-    next : (p h : ℕ) → p ≡ h + h → r ≡ p → k * h + r ≡ suc (suc k) * h + 0
+    next : (p h : ℕ) → p ≡ 2 * h → r ≡ p → k * h + r ≡ suc (suc k) * h + 0
     next p h e g = omega arith
 
-    carry : (p h q : ℕ) → p ≡ h + h → r ≡ p → (h + 0) * (2 * q) ≡ r * q
+    carry : (p h q : ℕ) → p ≡ 2 * h → r ≡ p → (h + 0) * (2 * q) ≡ r * q
     carry p h q e g = omega (arith, ap (λ (z : ℕ). z * q) (g ∙ e))
 
     go : (r < 2 ^ prec f) ⊎ (2 ^ prec f ≤ r) → unitsOf f (k * hid f + r) ≡ r * 2 ^ k
@@ -218,13 +218,13 @@ step-units f k r lo hi = go (lt-or-le r (hid f))
 in-field : (f : Format) (k r : ℕ) → k + 2 ≤ ones f → r < 2 ^ prec f → k * hid f + r < ones f * hid f
 in-field f k r g l = lt-of-lt-of-le (short (2 ^ prec f) (hid f) (twice-hid f) l) (mul-le-mul-right (hid f) g)
   where
-    short : (p h : ℕ) → p ≡ h + h → r < p → k * h + r < (k + 2) * h
+    short : (p h : ℕ) → p ≡ 2 * h → r < p → k * h + r < (k + 2) * h
     short p h e l = omega arith
 
 in-next-field : (f : Format) (k r : ℕ) → k + 2 < ones f → r ≤ 2 ^ prec f → k * hid f + r < ones f * hid f
 in-next-field f k r g l = lt-of-lt-of-le (short (2 ^ prec f) (hid f) (hid-pos f) (twice-hid f) l) (mul-le-mul-right (hid f) g)
   where
-    short : (p h : ℕ) → 0 < h → p ≡ h + h → r ≤ p → k * h + r < suc (k + 2) * h
+    short : (p h : ℕ) → 0 < h → p ≡ 2 * h → r ≤ p → k * h + r < suc (k + 2) * h
     short p h H e l = omega arith
 
 exponents : (f : Format) → prec f + ones f ≡ low f + suc (emax f) + 2
@@ -355,13 +355,16 @@ next-units f b = go (lt-or-le b (hid f))
         last : (q h : ℕ) → (q + 1) * h + t ≡ q * h + (h + t)
         last q h = omega arith
 
+    doubled : (h : ℕ) → h ≤ 2 * h
+    doubled h = omega arith
+
     above : (h t : ℕ) → h ≤ h + t
     above h t = omega arith
 
     above′ : (h t : ℕ) → h ≤ suc (h + t)
     above′ h t = omega arith
 
-    full : (p h t : ℕ) → p ≡ h + h → t < h → suc (h + t) ≤ p
+    full : (p h t : ℕ) → p ≡ 2 * h → t < h → suc (h + t) ≤ p
     full p h t e l = omega arith
 
     -- b is the pattern of r steps of 2 ^ k units, and the next one that of r + 1
@@ -375,7 +378,7 @@ next-units f b = go (lt-or-le b (hid f))
     go : (b < hid f) ⊎ (hid f ≤ b) → unitsOf f b < unitsOf f (suc b)
     go (inl h) =
         by 0 b (at-zero b (hid f)) (λ K. absurd (lt-irrefl 0 K)) (λ K. absurd (lt-irrefl 0 K))
-        (le-trans h (le-trans (above (hid f) (hid f)) (le-of-eq (sym (twice-hid f)))))
+        (le-trans h (le-trans (doubled (hid f)) (le-of-eq (sym (twice-hid f)))))
     go (inr h) =
         by (b / hid f - 1) (hid f + b % hid f)
         (split b (hid f) (b / hid f) (b % hid f) (div-add-mod' b (hid f))

@@ -71,7 +71,8 @@ module _ (a b : ℕ) (x y : Float) (p : UpTo a x) (q : UpTo b y) where
         let n = size-of x + size-of y in
         let m : size-of (rounded n) ≤ c = le-trans (rounded-mono n (a + b) (add-le-add (p .most) (q .most)) h) l in
         subst (UpTo c) (sym sum-is)
-        (up-to c (grid binary32 n U) (rounded n) (round-fits binary32 false n U) (rounded-value n small) (le-trans (le-of-eq (sym (rounded-size n small))) m))
+        (up-to c (grid binary32 n U) (rounded n) (round-fits binary32 false n U) (rounded-value n small)
+        (le-trans (le-of-eq (sym (rounded-size n small))) m))
 
     -- and no smaller than the first summand
     pub sum-grows : size-of x ≤ size-of (add binary32 x y)

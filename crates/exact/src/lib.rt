@@ -1,1 +1,1 @@
-// Definitions and laws only: specs/ has them.
+// Exact values of floats: a theory, with no functions. specs/ has the definitions and the laws.

@@ -1,6 +1,7 @@
 // The number functions of Rust's `f32` and `f64` that Rattle has not, under Rust's names; an f64
 // twin has the suffix 64. Each has an answer for every input, and its contract says which: the
-// definitions stand in specs/, and the crate `float_laws` proves what they mean.
+// definitions stand in specs/ or are the kit's (`lib.Ieee`), and the crate `float_laws` proves
+// what they mean.
 mod bits;
 mod casts;
 mod choose;

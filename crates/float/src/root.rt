@@ -26,7 +26,7 @@ fn newton(n: u64, g: u64) -> u64
     (g + n / g) / 2
 }
 
-// The whole part of √n. The second step leaves it, or one more.
+// The whole part of √n. The second step ends there or above; the loop steps back, at most once as far as runs show.
 fn whole_root(n: u64) -> u64
     requires { ⌜ Wide n ⌝ }
     ensures { λ r. ⌜ Whole n r ⌝ }

@@ -174,6 +174,25 @@ module _ (x y : Float) (X : T (not (isNan x))) (Y : T (not (isNan y))) where
             (λ a b. (subst (λ (u : Float). T (le x u)) b (G' .first), subst (λ (u : Float). T (le y u)) a (G .second)))
             (λ a b. (subst (λ (u : Float). T (le x u)) a (G .first), subst (λ (u : Float). T (le y u)) b (G' .second)))
 
+-- ---- a NaN gives the other, and is not clamped
+pub min-nan : (x : Float) → (minOf nan x ≡ x) × (minOf x nan ≡ x)
+unfolding lt isNan
+min-nan nan = (refl, refl)
+min-nan (inf s) = (refl, refl)
+min-nan (fin s m e) = (refl, refl)
+
+pub max-nan : (x : Float) → (maxOf nan x ≡ x) × (maxOf x nan ≡ x)
+unfolding lt isNan
+max-nan nan = (refl, refl)
+max-nan (inf s) = (refl, refl)
+max-nan (fin s m e) = (refl, refl)
+
+pub clamp-nan : (lo : Float) (hi : Float) → clampOf nan lo hi ≡ nan
+unfolding lt
+clamp-nan lo nan = refl
+clamp-nan lo (inf s) = refl
+clamp-nan lo (fin s m e) = refl
+
 -- ---- clamp
 pub clamp-is : (x lo hi : Float) → T (not (isNan x)) → T (not (isNan lo)) → T (not (isNan hi)) → T (le lo hi)
     → Clamped x lo hi (clampOf x lo hi)

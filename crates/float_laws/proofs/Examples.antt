@@ -10,7 +10,7 @@ use Rattle.float.specs.Root.{sqrtOf}
 use Rattle.float.specs.Sign.{isNegative, signumOf}
 use Rattle.float.specs.Whole.{floorOf, ceilOf, roundOf}
 
--- ---- roots: of 2 and 0; the smallest, the largest, the largest subnormal, -0 and -1
+-- ---- roots: of 2 and 0; the smallest, the infinities, NaN, the largest, the largest subnormal, -0 and -1
 root-of-2 : sqrtOf (ofBits binary32 0x40000000) ≡ ofBits binary32 0x3fb504f3
 unfolding sqrtOf ofBits
 root-of-2 = refl
@@ -22,6 +22,18 @@ root-of-0 = refl
 root-of-smallest : sqrtOf (ofBits binary32 1) ≡ ofBits binary32 0x1a3504f3
 unfolding sqrtOf ofBits
 root-of-smallest = refl
+
+root-of-infinity : sqrtOf (inf false) ≡ inf false
+unfolding sqrtOf
+root-of-infinity = refl
+
+root-of-minus-infinity : sqrtOf (inf true) ≡ nan
+unfolding sqrtOf
+root-of-minus-infinity = refl
+
+root-of-nan : sqrtOf nan ≡ nan
+unfolding sqrtOf
+root-of-nan = refl
 
 root-of-largest : sqrtOf (ofBits binary32 0x7f7fffff) ≡ ofBits binary32 0x5f7fffff
 unfolding sqrtOf ofBits

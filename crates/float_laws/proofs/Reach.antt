@@ -10,7 +10,7 @@ use lib.Pow.{pow-pos, pow-mono}
 use lib.Ieee.{Format, binary32, binary64, prec, hid, ones}
 use lib.Ieee.Scale.{overflow}
 use Rattle.exact.specs.Naturals.{lt-or-le}
-use Rattle.float.proofs.Wholes.{twice-hid}
+use Rattle.exact.specs.Patterns.{twice-hid}
 use Rattle.float_laws.specs.Nearest.{reach}
 use Rattle.exact.specs.Rounding.{Kept}
 

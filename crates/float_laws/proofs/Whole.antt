@@ -18,7 +18,8 @@ use Rattle.float.specs.Sign.{absOf, isNegative}
 use Rattle.float.specs.Whole.{num, den, downBy, upBy, halfBy, wholeBy, floorOf, ceilOf, roundOf}
 use Rattle.float.proofs.Signs.{abs-fits}
 use Rattle.float.proofs.Quotients.{part-lt, down-one, up-one, half-one}
-use Rattle.float.proofs.Wholes.{den-pos, digits-lt, twice-hid, ofInt-own, ofInt-value}
+use Rattle.exact.specs.Patterns.{twice-hid}
+use Rattle.float.proofs.Wholes.{den-pos, digits-lt, ofInt-own, ofInt-value}
 use Rattle.float_laws.specs.Whole.{Down, Up, Half, Floor, Ceil, Round}
 
 -- ---- the three quotients

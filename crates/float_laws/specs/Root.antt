@@ -11,7 +11,7 @@ pub record Closest (n g : ℕ) : Type 0 where
   pub from-lower : (v : Float) (a : ℕ) → T (fits binary32 v) → Units binary32 v a → a < g → (a + g) * (a + g) < 4 * n
   pub from-higher : (v : Float) (a : ℕ) → T (fits binary32 v) → Units binary32 v a → g < a → 4 * n < (a + g) * (a + g)
 
--- x is r steps of 2 ^ k units, r having 24 digits, and √n is less than half a step away, (2 * r ± 1) / 2 steps. Both sides are squared.
+-- x is r steps of 2 ^ k units, r from 2 ^ 23 to 2 ^ 24, and √n is less than half a step away, (2 * r ± 1) / 2 steps. Both sides are squared.
 pub record WithinHalf (n : ℕ) (x : Float) (r k : ℕ) : Type 0 where
   pub is : Units binary32 x (r * 2 ^ k)
   pub held : T (fits binary32 x)

@@ -1,1 +1,1 @@
-// Laws only: specs/ has the statements, proofs/ the proofs.
+// What the definitions of `float` mean: a theory, with no functions. specs/ says the properties, proofs/ has the theorems.

@@ -1,0 +1,210 @@
+-- Worked cases: what small files give, by computation.
+use mathlib.Core.List.{List, [], map, _++_, _∷_}
+use mathlib.Core.Path.{refl, _≡_}
+use Prim.Native.Nat.{suc, zero, ℕ, _%_, _/_, _<_}
+use lib.Ieee.{Float, binary32, le, lt, ofBits}
+use lib.ListN.{length}
+use borrow.Author.Tests.{lt-ltb}
+use Rattle.fields.specs.Fields.{u32At, u64At}
+use Rattle.plan_format.specs.Plan.{Decoded, accepted, any, decode, every, fits, inRange, indexOf, judged, lacks, laneCount, laneFits, laneRange, numberOf, placeLane, recordNumber, refused, repeats, rises, risesFrom, sectionFits, sectionRange, settled, twice, walk, walked, withRecord, within}
+use Rattle.plan_format.specs.Records.{Lane, queryAt, raisedAt, run}
+use Rattle.plan_format.specs.Tables.{fanRow, group, laneRow, linkCount, linked, rows, rowsFrom}
+use Rattle.plan_format.specs.declared.Counts.{Counts}
+use Rattle.plan_format.specs.declared.Query.the-variants.{Route}
+
+-- n as so many bytes
+bytes : ℕ → ℕ → List ℕ
+bytes zero n = []
+bytes (suc k) n = n % 256 ∷ bytes k (n / 256)
+
+-- a record with its header
+made : ℕ → List ℕ → List ℕ
+made kind payload = bytes 4 (length payload) ++ (bytes 2 kind ++ payload)
+
+-- an f32 by its bits
+point : ℕ → ℕ → ℕ → List ℕ
+unfolding bytes
+point x y z = bytes 4 x ++ (bytes 4 y ++ bytes 4 z)
+
+-- a Driving lane without ends that goes straight along x
+straight : ℕ → ℕ → ℕ → List ℕ
+unfolding bytes made point
+straight n from to = made 1 (bytes 2 n ++ (1 ∷ 0 ∷ 0 ∷ bytes 2 2 ++ (point from 0 0 ++ point to 0 0)))
+
+link : ℕ → ℕ → ℕ → List ℕ
+unfolding bytes made
+link from role to = made 2 (bytes 2 from ++ (role ∷ bytes 2 to))
+
+-- stations 0 and 8
+section : ℕ → ℕ → List ℕ
+unfolding bytes made
+section road index =
+    made 3 (bytes 2 road ++ (bytes 2 index ++ (bytes 8 0 ++ (bytes 8 0x4020000000000000 ++ (bytes 2 2 ++ (bytes 8 0 ++ bytes 8 0x4020000000000000))))))
+
+place : ℕ → ℕ → ℕ → ℕ → List ℕ
+unfolding bytes made
+place lane road index number = made 4 (bytes 2 lane ++ (bytes 2 road ++ (bytes 2 index ++ bytes 4 number)))
+
+-- the file printed in document 01: lanes 1 and 2, a link, a route from (2,0,0) to (12,0,0)
+printed : List ℕ
+unfolding bytes made point straight link
+printed = straight 1 0 0x41000000 ++ (straight 2 0x41000000 0x41800000 ++ (link 1 0 2 ++ made 16 (point 0x40000000 0 0 ++ point 0x41400000 0 0)))
+
+f32 : ℕ → Float
+f32 n = ofBits binary32 n
+
+driving : ℕ → ℕ → ℕ → Lane
+unfolding f32
+driving n from to =
+    record {
+      number = n;
+      type = 1;
+      direction = 0;
+      ends = 0;
+      count = 2;
+      points = f32 from ∷ f32 0 ∷ f32 0 ∷ f32 to ∷ f32 0 ∷ f32 0 ∷ [];
+      tangents = [];
+    }
+
+printed-plan :
+    decode 0 printed
+    ≡ accepted (record {
+      lanes = driving 1 0 0x41000000 ∷ driving 2 0x41000000 0x41800000 ∷ [];
+      links = record { from = 1; role = 0; to = 2 } ∷ [];
+      sections = [];
+      places = [];
+      queries = Route (f32 0x40000000) (f32 0) (f32 0) (f32 0x41400000) (f32 0) (f32 0) ∷ [];
+    })
+unfolding ofBits le lt u32At u64At run raisedAt queryAt laneFits sectionFits fits every any risesFrom rises laneRange sectionRange inRange within recordNumber withRecord walk walked indexOf repeats twice lacks judged settled decode bytes made point straight link section place f32 driving printed
+printed-plan = refl
+
+numberIs : Decoded → ℕ
+numberIs (refused n) = n
+numberIs (accepted p) = 0
+
+-- its tables of lanes, links and fans
+lanesIn : Decoded → List ℕ
+lanesIn (refused n) = []
+lanesIn (accepted p) = rowsFrom laneRow laneCount 0 (p .lanes)
+
+linksIn : Decoded → List ℕ
+linksIn (refused n) = []
+linksIn (accepted p) = rows (group (map numberOf (p .lanes)) (p .links)) (map numberOf (p .lanes))
+
+fansIn : Decoded → List ℕ
+fansIn (refused n) = []
+fansIn (accepted p) =
+    rowsFrom (fanRow (p .links) (map placeLane (p .places))) (linkCount (p .links)) 0 (map numberOf (p .lanes))
+
+printed-lanes : lanesIn (decode 0 printed) ≡ 1 ∷ 1 ∷ 0 ∷ 0 ∷ 0 ∷ 2 ∷ 2 ∷ 1 ∷ 0 ∷ 0 ∷ 2 ∷ 2 ∷ []
+unfolding ofBits le lt u32At u64At run raisedAt queryAt laneFits sectionFits fits every any risesFrom rises laneRange sectionRange inRange within recordNumber withRecord walk walked indexOf repeats twice lacks judged settled decode bytes made point straight link section place f32 driving printed rows rowsFrom linked lanesIn
+printed-lanes = refl
+
+printed-links : linksIn (decode 0 printed) ≡ 2 ∷ 1 ∷ []
+unfolding ofBits le lt u32At u64At run raisedAt queryAt laneFits sectionFits fits every any risesFrom rises laneRange sectionRange inRange within recordNumber withRecord walk walked indexOf repeats twice lacks judged settled decode bytes made point straight link section place f32 driving printed rows rowsFrom linked linksIn
+printed-links = refl
+
+printed-fans : fansIn (decode 0 printed) ≡ 0 ∷ 1 ∷ 0 ∷ 0 ∷ 256 ∷ 1 ∷ 0 ∷ 0 ∷ 0 ∷ 256 ∷ []
+unfolding ofBits le lt u32At u64At run raisedAt queryAt laneFits sectionFits fits every any risesFrom rises laneRange sectionRange inRange within recordNumber withRecord walk walked indexOf repeats twice lacks judged settled decode bytes made point straight link section place f32 driving printed rows rowsFrom linked fansIn
+printed-fans = refl
+
+-- an empty file is a plan without lanes
+empty : numberIs (decode 0 ([])) ≡ 0
+unfolding ofBits le lt u32At u64At run raisedAt queryAt laneFits sectionFits fits every any risesFrom rises laneRange sectionRange inRange within recordNumber withRecord walk walked indexOf repeats twice lacks judged settled decode bytes made point straight link section place f32 driving printed numberIs
+empty = refl
+
+-- under six header bytes
+five-bytes : numberIs (decode 0 (1 ∷ 0 ∷ 0 ∷ 0 ∷ 0 ∷ [])) ≡ 3
+unfolding ofBits le lt u32At u64At run raisedAt queryAt laneFits sectionFits fits every any risesFrom rises laneRange sectionRange inRange within recordNumber withRecord walk walked indexOf repeats twice lacks judged settled decode bytes made point straight link section place f32 driving printed numberIs
+five-bytes = refl
+
+-- a record that runs past the file, whatever its kind
+past-the-end : numberIs (decode 0 (bytes 4 1 ++ bytes 2 99)) ≡ 3
+unfolding ofBits le lt u32At u64At run raisedAt queryAt laneFits sectionFits fits every any risesFrom rises laneRange sectionRange inRange within recordNumber withRecord walk walked indexOf repeats twice lacks judged settled decode bytes made point straight link section place f32 driving printed numberIs
+past-the-end = refl
+
+-- an unknown kind
+unknown-kind : numberIs (decode 0 (made 5 [])) ≡ 4
+unfolding ofBits le lt u32At u64At run raisedAt queryAt laneFits sectionFits fits every any risesFrom rises laneRange sectionRange inRange within recordNumber withRecord walk walked indexOf repeats twice lacks judged settled decode bytes made point straight link section place f32 driving printed numberIs
+unknown-kind = refl
+
+-- a length that does not fit its kind
+wrong-length : numberIs (decode 0 (made 4 (bytes 9 0))) ≡ 4
+unfolding ofBits le lt u32At u64At run raisedAt queryAt laneFits sectionFits fits every any risesFrom rises laneRange sectionRange inRange within recordNumber withRecord walk walked indexOf repeats twice lacks judged settled decode bytes made point straight link section place f32 driving printed numberIs
+wrong-length = refl
+
+-- coordinates -4,096 and 4,096 pass
+edge : numberIs (decode 0 (straight 1 0xc5800000 0x45800000)) ≡ 0
+unfolding ofBits le lt u32At u64At run raisedAt queryAt laneFits sectionFits fits every any risesFrom rises laneRange sectionRange inRange within recordNumber withRecord walk walked indexOf repeats twice lacks judged settled decode bytes made point straight link section place f32 driving printed numberIs
+edge = refl
+
+-- the next f32 above 4,096 does not
+above : numberIs (decode 0 (straight 1 0 0x45800001)) ≡ 5
+unfolding ofBits le lt u32At u64At run raisedAt queryAt laneFits sectionFits fits every any risesFrom rises laneRange sectionRange inRange within recordNumber withRecord walk walked indexOf repeats twice lacks judged settled decode bytes made point straight link section place f32 driving printed numberIs
+above = refl
+
+-- one point
+one-point : numberIs (decode 0 (made 1 (bytes 2 1 ++ (1 ∷ 0 ∷ 0 ∷ bytes 2 1 ++ point 0 0 0)))) ≡ 5
+unfolding ofBits le lt u32At u64At run raisedAt queryAt laneFits sectionFits fits every any risesFrom rises laneRange sectionRange inRange within recordNumber withRecord walk walked indexOf repeats twice lacks judged settled decode bytes made point straight link section place f32 driving printed numberIs
+one-point = refl
+
+-- ends 2, its length taken as with tangents
+two-ends : numberIs (decode 0 (made 1 (bytes 2 1 ++ (1 ∷ 0 ∷ 2 ∷ bytes 2 2 ++ (bytes 24 0 ++ bytes 24 0))))) ≡ 5
+unfolding ofBits le lt u32At u64At run raisedAt queryAt laneFits sectionFits fits every any risesFrom rises laneRange sectionRange inRange within recordNumber withRecord walk walked indexOf repeats twice lacks judged settled decode bytes made point straight link section place f32 driving printed numberIs
+two-ends = refl
+
+-- a lane that stands twice
+same-lane : numberIs (decode 0 (straight 1 0 0x41000000 ++ straight 1 0 0x41000000)) ≡ 7
+unfolding ofBits le lt u32At u64At run raisedAt queryAt laneFits sectionFits fits every any risesFrom rises laneRange sectionRange inRange within recordNumber withRecord walk walked indexOf repeats twice lacks judged settled decode bytes made point straight link section place f32 driving printed numberIs
+same-lane = refl
+
+-- 7 comes before 8, wherever the records stand
+twice-before-missing : numberIs (decode 0 (link 9 0 1 ++ (straight 1 0 0x41000000 ++ straight 1 0 0x41000000))) ≡ 7
+unfolding ofBits le lt u32At u64At run raisedAt queryAt laneFits sectionFits fits every any risesFrom rises laneRange sectionRange inRange within recordNumber withRecord walk walked indexOf repeats twice lacks judged settled decode bytes made point straight link section place f32 driving printed numberIs
+twice-before-missing = refl
+
+-- a from-lane that is missing
+from-missing : numberIs (decode 0 (straight 1 0 0x41000000 ++ link 2 0 1)) ≡ 8
+unfolding ofBits le lt u32At u64At run raisedAt queryAt laneFits sectionFits fits every any risesFrom rises laneRange sectionRange inRange within recordNumber withRecord walk walked indexOf repeats twice lacks judged settled decode bytes made point straight link section place f32 driving printed numberIs
+from-missing = refl
+
+-- a lane led to may be missing
+to-missing : numberIs (decode 0 (straight 1 0 0x41000000 ++ link 1 0 2)) ≡ 0
+unfolding ofBits le lt u32At u64At run raisedAt queryAt laneFits sectionFits fits every any risesFrom rises laneRange sectionRange inRange within recordNumber withRecord walk walked indexOf repeats twice lacks judged settled decode bytes made point straight link section place f32 driving printed numberIs
+to-missing = refl
+
+-- a place may stand before its lane and section; here its number is -1
+placed : numberIs (decode 0 (place 1 0 0 0xffffffff ++ (straight 1 0 0x41000000 ++ section 0 0))) ≡ 0
+unfolding ofBits le lt u32At u64At run raisedAt queryAt laneFits sectionFits fits every any risesFrom rises laneRange sectionRange inRange within recordNumber withRecord walk walked indexOf repeats twice lacks judged settled decode bytes made point straight link section place f32 driving printed numberIs
+placed = refl
+
+-- a section that is missing
+no-section : numberIs (decode 0 (straight 1 0 0x41000000 ++ place 1 0 0 0)) ≡ 8
+unfolding ofBits le lt u32At u64At run raisedAt queryAt laneFits sectionFits fits every any risesFrom rises laneRange sectionRange inRange within recordNumber withRecord walk walked indexOf repeats twice lacks judged settled decode bytes made point straight link section place f32 driving printed numberIs
+no-section = refl
+
+-- a caller's side above 1 is tried after the records and before 7
+side-two : numberIs (decode 2 (straight 1 0 0x41000000 ++ straight 1 0 0x41000000)) ≡ 5
+unfolding ofBits le lt u32At u64At run raisedAt queryAt laneFits sectionFits fits every any risesFrom rises laneRange sectionRange inRange within recordNumber withRecord walk walked indexOf repeats twice lacks judged settled decode bytes made point straight link section place f32 driving printed numberIs
+side-two = refl
+
+-- a lane after so many lanes and points: 256 lanes and 4,096 points pass
+after : ℕ → ℕ → Counts
+after lanes points = record { lanes = lanes; points = points; links = 0; sections = 0; stations = 0; places = 0 }
+
+last-lane : recordNumber (straight 1 0 0) 0 (after 255 4094) ≡ 0
+unfolding ofBits le lt u32At u64At run raisedAt queryAt laneFits sectionFits fits every any risesFrom rises laneRange sectionRange inRange within recordNumber withRecord walk walked indexOf repeats twice lacks judged settled decode bytes made point straight link section place f32 driving printed after
+last-lane = refl
+
+too-many-lanes : recordNumber (straight 1 0 0) 0 (after 256 0) ≡ 6
+unfolding ofBits le lt u32At u64At run raisedAt queryAt laneFits sectionFits fits every any risesFrom rises laneRange sectionRange inRange within recordNumber withRecord walk walked indexOf repeats twice lacks judged settled decode bytes made point straight link section place f32 driving printed after
+too-many-lanes = refl
+
+too-many-points : recordNumber (straight 1 0 0) 0 (after 0 4095) ≡ 6
+unfolding ofBits le lt u32At u64At run raisedAt queryAt laneFits sectionFits fits every any risesFrom rises laneRange sectionRange inRange within recordNumber withRecord walk walked indexOf repeats twice lacks judged settled decode bytes made point straight link section place f32 driving printed after
+too-many-points = refl
+
+-- more than 65,536 bytes
+too-large : (side : ℕ) (s : List ℕ) → 65536 < length s → decode side s ≡ refused 2
+unfolding decode
+too-large side s h = simp (lt-ltb 65536 (length s) h)

@@ -1,0 +1,2 @@
+-- Laws that the proofs of plan_rows cite.
+pub mod Runs
