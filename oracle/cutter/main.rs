@@ -60,7 +60,7 @@ fn source_folder(home: &Path) -> Result<PathBuf, String> {
     if folder.join("coords.rs").is_file() {
         Ok(folder)
     } else {
-        Err("the source is not at hand: KARTSODI_SOURCE must name a folder with src/coords.rs".into())
+        Err("the source was not found: KARTSODI_SOURCE must name a folder with src/coords.rs".into())
     }
 }
 

@@ -53,8 +53,8 @@ pub fn switched(mut modules: Vec<(String, String)>) -> Result<(Vec<(String, Stri
     }
     table += "];\n";
     let listed = |e: &Equal| WRONG.iter().any(|w| (w.file, w.old) == (e.file, e.old) && w.new.contains(&e.new));
-    if let Some(stray) = EQUAL.iter().find(|equal| !listed(equal)) {
-        return Err(format!("no wrong oracle `{}` of {}", stray.new, stray.file));
+    if let Some(unlisted) = EQUAL.iter().find(|equal| !listed(equal)) {
+        return Err(format!("no wrong oracle `{}` of {}", unlisted.new, unlisted.file));
     }
     Ok((modules, table))
 }

@@ -20,7 +20,9 @@ pub const WRONG: &[Wrong] = &[
     ]),
     once("coords.rs", "pub fn normalize_or(", "len.is_finite()", &["true"]),
     once("coords.rs", "pub fn normalize_or(", "len > 0.0", &["len >= 0.0", "len > 1e-6"]),
-    once("coords.rs", "pub fn normalize_or(", "self * (1.0 / len)", &["Self::new(self.x / len, self.y / len, self.z / len)"]),
+    once("coords.rs", "pub fn normalize_or(", "self * (1.0 / len)", &[
+        "Self::new(self.x / len, self.y / len, self.z / len)",
+    ]),
     once("coords.rs", "/// The place `t` of the way", "self + (other - self) * t", &[
         "Self::new(self.x * (1.0 - t) + other.x * t, self.y * (1.0 - t) + other.y * t, self.z * (1.0 - t) + other.z * t)",
     ]),
@@ -35,7 +37,11 @@ pub const WRONG: &[Wrong] = &[
     ]),
     once("geometry.rs", "fn segment(", "c <= s", &["c < s"]),
     once("geometry.rs", "fn local_t(", "seg_len > 1e-6", &["seg_len >= 1e-6", "seg_len > 1e-5", "seg_len > 0.0"]),
-    once("geometry.rs", "fn locate(", "s.clamp(0.0, self.length())", &["s.max(0.0)", "s.min(self.length())", "s.max(0.0).min(self.length())"]),
+    once("geometry.rs", "fn locate(", "s.clamp(0.0, self.length())", &[
+        "s.max(0.0)",
+        "s.min(self.length())",
+        "s.max(0.0).min(self.length())",
+    ]),
     once("geometry.rs", "fn project_segments(", "len2 > 1e-9", &["len2 >= 1e-9", "len2 > 1e-6", "len2 > 0.0"]),
     once("geometry.rs", "fn project_segments(", "((point - a).dot(ab) / len2).clamp(0.0, 1.0)", &[
         "((point - a).dot(ab) / len2).max(0.0).min(1.0)",
@@ -43,33 +49,62 @@ pub const WRONG: &[Wrong] = &[
         "((point - a).dot(ab) / len2).max(0.0)",
     ]),
     once("geometry.rs", "fn project_segments(", "dist < best_dist", &["dist <= best_dist"]),
-    once("geometry.rs", "fn project_segments(", "self.cumulative[i] + ab.length() * t", &["self.cumulative[i] + (closest - a).length()"]),
+    once("geometry.rs", "fn project_segments(", "self.cumulative[i] + ab.length() * t", &[
+        "self.cumulative[i] + (closest - a).length()",
+    ]),
     once("geometry.rs", "fn project_segments(", "horizontal(point - closest).dot(left_normal(heading))", &[
         "-horizontal(point - closest).dot(left_normal(heading))",
         "horizontal(point - a).dot(left_normal(heading))",
     ]),
     once("geometry.rs", "fn horizontal(", "Vector::new(v.x, v.y, 0.0)", &["v"]),
-    once("geometry.rs", "let chord =", "(incoming + outgoing).normalize_or_zero()", &["incoming + outgoing", "outgoing.normalize_or(incoming)"]),
-    once("geometry.rs", "if i == 0 =>", "horizontal(start).normalize_or(chord)", &["chord", "start.normalize_or(chord)"]),
+    once("geometry.rs", "let chord =", "(incoming + outgoing).normalize_or_zero()", &[
+        "incoming + outgoing",
+        "outgoing.normalize_or(incoming)",
+    ]),
+    once("geometry.rs", "if i == 0 =>", "horizontal(start).normalize_or(chord)", &[
+        "chord",
+        "start.normalize_or(chord)",
+    ]),
     once("geometry.rs", "if i == n - 1 =>", "horizontal(end).normalize_or(chord)", &["chord"]),
     // The grid.
     once("grid.rs", "Some(b) => Self {", "b.min_x.min_plus(x)", &["b.min_x"]),
     once("grid.rs", "Some(b) => Self {", "b.max_y.max_plus(y)", &["y"]),
     once("grid.rs", "pub fn merge(", "self.max_x.max_plus(other.max_x)", &["other.max_x"]),
-    once("grid.rs", "pub fn dist2(", "(self.min_x - x).max_plus(0.0).max_plus(x - self.max_x)", &["(self.min_x - x).max_plus(0.0)", "0.0"]),
-    once("grid.rs", "pub fn dist2(", "dx * dx + dy * dy", &["dy * dy + dx * dx", "dx.mul_add(dx, dy * dy)", "dx * dx + dy * dy + 1.0"]),
+    once("grid.rs", "pub fn dist2(", "(self.min_x - x).max_plus(0.0).max_plus(x - self.max_x)", &[
+        "(self.min_x - x).max_plus(0.0)",
+        "0.0",
+    ]),
+    once("grid.rs", "pub fn dist2(", "dx * dx + dy * dy", &[
+        "dy * dy + dx * dx",
+        "dx.mul_add(dx, dy * dy)",
+        "dx * dx + dy * dy + 1.0",
+    ]),
     once("grid.rs", "let target =", "ITEMS_PER_CELL", &["1.0", "4.0"]),
-    once("grid.rs", "let area =", "w.max_plus(1e-3) * h.max_plus(1e-3)", &["w * h", "w.max_plus(1.0) * h.max_plus(1.0)"]),
+    once("grid.rs", "let area =", "w.max_plus(1e-3) * h.max_plus(1e-3)", &[
+        "w * h",
+        "w.max_plus(1.0) * h.max_plus(1.0)",
+    ]),
     once("grid.rs", "let cols =", "(w / cell).ceil()", &["(w / cell).floor()"]),
     once("grid.rs", "let cols =", "MAX_DIM", &["512"]),
-    once("grid.rs", "// Re-derive the cell size", "(w / cols as f32).max_plus(h / rows as f32).max_plus(1e-3)", &["cell", "(w / cols as f32).max_plus(1e-3)"]),
+    once("grid.rs", "// Re-derive the cell size", "(w / cols as f32).max_plus(h / rows as f32).max_plus(1e-3)", &[
+        "cell",
+        "(w / cols as f32).max_plus(1e-3)",
+    ]),
     once("grid.rs", "for iy in lo_y", "lo_x..=hi_x", &["lo_x..=lo_x"]),
     once("grid.rs", "fn bucket(", "(offset / cell).floor()", &["(offset / cell).round()", "(offset / cell).ceil()"]),
     once("grid.rs", "fn bucket(", "i.is_nan() || i < 0.0", &["i.is_nan()", "i < 0.0", "i <= 0.0"]),
-    once("grid.rs", "pub fn nearest<", "self.cols.max(self.rows)", &["self.cols.min(self.rows)", "self.cols.max(self.rows) - 1"]),
+    once("grid.rs", "pub fn nearest<", "self.cols.max(self.rows)", &[
+        "self.cols.min(self.rows)",
+        "self.cols.max(self.rows) - 1",
+    ]),
     once("grid.rs", "pub fn nearest<", "(r - 1).max(0)", &["r.max(0)", "(r - 2).max(0)", "(r + 1).max(0)"]),
     once("grid.rs", "let floor =", "*d2 <= floor * floor", &["*d2 < floor * floor", "*d2 <= floor", "false"]),
-    once("grid.rs", "else {\n                        continue", "(d2, item) < (*b, *bi)", &["d2 < *b", "(d2, item) <= (*b, *bi)", "(d2, *bi) < (*b, item)", "d2 <= *b"]),
+    once("grid.rs", "else {\n                        continue", "(d2, item) < (*b, *bi)", &[
+        "d2 < *b",
+        "(d2, item) <= (*b, *bi)",
+        "(d2, *bi) < (*b, item)",
+        "d2 <= *b",
+    ]),
     once("grid.rs", "pub fn nearest<", "!d2.is_nan()", &["true"]),
     once("grid.rs", "if !in_bounds", "!in_bounds", &["false"]),
     once("grid.rs", "let edge =", "iy == cy - r || iy == cy + r", &["iy == cy - r", "true"]),
@@ -109,25 +144,38 @@ pub const WRONG: &[Wrong] = &[
     once("road.rs", "pub fn station_at(", "before + step >= arc", &["before + step > arc", "step >= arc - before"]),
     once("road.rs", "pub fn station_at(", "i == last", &["false"]),
     once("road.rs", "pub fn station_at(", "step > 0.0", &["step >= 0.0", "step > 1e-6"]),
-    once("road.rs", "pub fn station_at(", "((arc - before) / step).clamp(0.0, 1.0)", &["(arc - before) / step", "((arc - before) / step).max(0.0)", "((arc - before) / step).min(1.0)"]),
+    once("road.rs", "pub fn station_at(", "((arc - before) / step).clamp(0.0, 1.0)", &[
+        "(arc - before) / step",
+        "((arc - before) / step).max(0.0)",
+        "((arc - before) / step).min(1.0)",
+    ]),
     // The search.
     twice("route.rs", "if start == goal", "start == goal && ahead(self.lane(start)?.direction, start_s, goal_s)", &[
         "start == goal",
         "false",
     ]),
-    twice("route.rs", "let mut search", "Search::default()", &["{ let mut s = Search::default(); s.dist.insert(start, 0.0); s }"]),
+    twice("route.rs", "let mut search", "Search::default()", &[
+        "{ let mut s = Search::default(); s.dist.insert(start, 0.0); s }",
+    ]),
     twice("route.rs", "if cost > *search", "cost > *search.dist.get(&lane).unwrap_or(&f32::INFINITY)", &[
         "cost >= *search.dist.get(&lane).unwrap_or(&f32::INFINITY)",
         "false",
     ]),
-    once("route.rs", "pub fn expand(", "cost + step", &["cost + step.ceil()", "step", "cost + l.center.length() * 1.001"]),
+    once("route.rs", "pub fn expand(", "cost + step", &[
+        "cost + step.ceil()",
+        "step",
+        "cost + l.center.length() * 1.001",
+    ]),
     once("route.rs", "pub fn expand(", "LANE_CHANGE_COST", &["29.0", "31.0", "30.000002"]),
     once("route.rs", "for (next, nd) in edges", "nd < *self.dist.get(&next).unwrap_or(&f32::INFINITY)", &[
         "nd <= *self.dist.get(&next).unwrap_or(&f32::INFINITY)",
         "!self.dist.contains_key(&next)",
     ]),
     once("route.rs", "impl PartialOrd for State", "self.cmp(o)", &["o.cmp(self)"]),
-    once("route.rs", "impl Ord for State", "self.lane.0.cmp(&o.lane.0)", &["o.lane.0.cmp(&self.lane.0)", "Ordering::Equal"]),
+    once("route.rs", "impl Ord for State", "self.lane.0.cmp(&o.lane.0)", &[
+        "o.lane.0.cmp(&self.lane.0)",
+        "Ordering::Equal",
+    ]),
     once("route.rs", "Direction::Forward => to", "to >= from", &["to > from"]),
     once("route.rs", "Direction::Backward => to", "to <= from", &["to < from", "to >= from"]),
     once("route.rs", "Direction::Both => true", "true", &["to >= from"]),
@@ -143,24 +191,52 @@ pub const WRONG: &[Wrong] = &[
     ]),
     twice("route.rs", "let goal = goal_s", "ahead(lane.direction, entry, goal)", &["true", "false"]),
     twice("route.rs", "else if changes_off", "LANE_CHANGE_DIST", &["9.0", "11.0"]),
-    once("route.rs", "pub fn nearer_end(", "away(points[points.len() - 1]) <= away(points[0])", &["away(points[points.len() - 1]) < away(points[0])"]),
+    once("route.rs", "pub fn nearer_end(", "away(points[points.len() - 1]) <= away(points[0])", &[
+        "away(points[points.len() - 1]) < away(points[0])",
+    ]),
     once("route.rs", "pub fn nearer_end(", "return true", &["return false"]),
-    once("route.rs", "(toward - from).signum()", "(from + step).clamp(from.min_plus(toward), from.max_plus(toward))", &["from + step"]),
-    once("route.rs", "pub fn advance(", "(toward - from).signum()", &["if toward == from { 0.0 } else { (toward - from).signum() }"]),
-    twice("route.rs", "let span = exit - entry;", "span.abs() < 1e-4", &["span.abs() <= 1e-4", "span.abs() < 1e-3", "span.abs() < 1e-5", "false"]),
+    once("route.rs", "(toward - from).signum()", "(from + step).clamp(from.min_plus(toward), from.max_plus(toward))", &[
+        "from + step",
+    ]),
+    once("route.rs", "pub fn advance(", "(toward - from).signum()", &[
+        "if toward == from { 0.0 } else { (toward - from).signum() }",
+    ]),
+    twice("route.rs", "let span = exit - entry;", "span.abs() < 1e-4", &[
+        "span.abs() <= 1e-4",
+        "span.abs() < 1e-3",
+        "span.abs() < 1e-5",
+        "false",
+    ]),
     twice("route.rs", "let steps =", "(span.abs() / ROUTE_STEP).ceil()", &[
         "(span.abs() / 1.9).ceil()",
         "(span.abs() / 2.1).ceil()",
         "(span.abs() / ROUTE_STEP).floor()",
         "(span.abs() / ROUTE_STEP).round()",
     ]),
-    twice("route.rs", "let s = entry", "entry + span * (k as f32 / steps as f32)", &["entry + span * k as f32 / steps as f32", "entry + ROUTE_STEP * k as f32 * span.signum()"]),
-    once("route.rs", "pub fn push_dedup(", "q.distance_squared_to(p) > 1e-6", &["q.distance_squared_to(p) >= 1e-6", "q.distance_squared_to(p) > 1e-5", "q.distance_squared_to(p) > 0.0", "true"]),
+    twice("route.rs", "let s = entry", "entry + span * (k as f32 / steps as f32)", &[
+        "entry + span * k as f32 / steps as f32",
+        "entry + ROUTE_STEP * k as f32 * span.signum()",
+    ]),
+    once("route.rs", "pub fn push_dedup(", "q.distance_squared_to(p) > 1e-6", &[
+        "q.distance_squared_to(p) >= 1e-6",
+        "q.distance_squared_to(p) > 1e-5",
+        "q.distance_squared_to(p) > 0.0",
+        "true",
+    ]),
     // Advances.
-    twice("advance.rs", "let millimetres =", "(m * 1000.0).round()", &["(m * 1000.0).trunc()", "(m * 1000.0).floor()", "(m * 100.0).round()", "(m * 1000.0).round_ties_even()", "m * 1000.0 * 1000.0"]),
+    twice("advance.rs", "let millimetres =", "(m * 1000.0).round()", &[
+        "(m * 1000.0).trunc()",
+        "(m * 1000.0).floor()",
+        "(m * 100.0).round()",
+        "(m * 1000.0).round_ties_even()",
+        "m * 1000.0 * 1000.0",
+    ]),
     twice("advance.rs", "let ahead =", "distance >= 0.0", &["distance > 0.0", "distance.is_sign_positive()"]),
     twice("advance.rs", "let side = move", "up == ahead", &["up", "true"]),
-    twice("advance.rs", "let mut todo =", "vec![branch(false), branch(true)]", &["vec![branch(true), branch(false)]", "vec![branch(true)]"]),
+    twice("advance.rs", "let mut todo =", "vec![branch(false), branch(true)]", &[
+        "vec![branch(true), branch(false)]",
+        "vec![branch(true)]",
+    ]),
     twice("advance.rs", "let linked =", "ahead", &["!ahead"]),
     twice("advance.rs", "let next: Vec<&Lane> =", "lane.direction != Direction::Both", &["true", "false"]),
     twice("advance.rs", "remaining > room &&", "remaining > room", &["remaining >= room", "remaining > room + 1e-3"]),
@@ -172,12 +248,20 @@ pub const WRONG: &[Wrong] = &[
         keep: "next.iter().rev().collect::<Vec<_>>().into_iter()",
         new: &["next.iter().collect::<Vec<_>>().into_iter()"],
     },
-    twice("advance.rs", "let points = next.center.points();\n                            exit", "exit.distance_to(points[0])", &["exit.distance_to(points[0]).next_up()", "0.0"]),
+    twice("advance.rs", "let points = next.center.points();\n                            exit", "exit.distance_to(points[0])", &[
+        "exit.distance_to(points[0]).next_up()",
+        "0.0",
+    ]),
     twice("advance.rs", "let key =", "branch.arc.to_bits()", &["0"]),
     twice("advance.rs", "let key =", "millimetres(branch.remaining)", &["0"]),
     twice("advance.rs", "let key =", "millimetres(left)", &["0", "millimetres(left.abs())"]),
-    twice("advance.rs", "entered.insert(key)", "entered.insert(key).then_some(branch)", &["{ entered.insert(key); Some(branch) }"]),
-    twice("advance.rs", "let moved =", "remaining.min_plus(room) as f32", &["(remaining as f32).min_plus(room as f32)", "remaining as f32"]),
+    twice("advance.rs", "entered.insert(key)", "entered.insert(key).then_some(branch)", &[
+        "{ entered.insert(key); Some(branch) }",
+    ]),
+    twice("advance.rs", "let moved =", "remaining.min_plus(room) as f32", &[
+        "(remaining as f32).min_plus(room as f32)",
+        "remaining as f32",
+    ]),
     twice("advance.rs", "let Some(at) = self", "left * side(up)", &["left"]),
     twice("advance.rs", "let end = if", "remaining > room", &["remaining >= room"]),
     twice("advance.rs", "if placed.insert(", "placed.insert((at.lane, millimetres(at.s), millimetres(at.offset), short))", &[
@@ -186,22 +270,43 @@ pub const WRONG: &[Wrong] = &[
         "placed.insert((at.lane, millimetres(at.s), 0, short))",
         "placed.insert((at.lane, 0, millimetres(at.offset), short))",
     ]),
-    once("advance.rs", "(out, entered.len())", "entered.len()", &["entered.len() + 1", "placed.len()", "entered.len().min(1)"]),
-    once("advance.rs", "pub fn at_end(", "away(exit) <= away(other)", &["away(exit) < away(other)", "away(exit) >= away(other)"]),
+    once("advance.rs", "(out, entered.len())", "entered.len()", &[
+        "entered.len() + 1",
+        "placed.len()",
+        "entered.len().min(1)",
+    ]),
+    once("advance.rs", "pub fn at_end(", "away(exit) <= away(other)", &[
+        "away(exit) < away(other)",
+        "away(exit) >= away(other)",
+    ]),
     // Sides.
     once("advance.rs", "pub fn across(", "std::cmp::Reverse(od_id)", &["std::cmp::Reverse(!od_id)"]),
-    once("advance.rs", "let there = if side", "side * travel(lane.direction) > 0.0", &["side > 0.0", "side * travel(lane.direction) < 0.0"]),
-    once("advance.rs", "Direction::Forward | Direction::Both => 1.0", "1.0", &["if direction == Direction::Both { -1.0 } else { 1.0 }"]),
+    once("advance.rs", "let there = if side", "side * travel(lane.direction) > 0.0", &[
+        "side > 0.0",
+        "side * travel(lane.direction) < 0.0",
+    ]),
+    once("advance.rs", "Direction::Forward | Direction::Both => 1.0", "1.0", &[
+        "if direction == Direction::Both { -1.0 } else { 1.0 }",
+    ]),
     // The reader.
-    once("reader.rs", "pub fn scan(", "file.len() > MOST_BYTES", &["file.len() >= MOST_BYTES", "file.len() > MOST_BYTES + 1"]),
+    once("reader.rs", "pub fn scan(", "file.len() > MOST_BYTES", &[
+        "file.len() >= MOST_BYTES",
+        "file.len() > MOST_BYTES + 1",
+    ]),
     once("reader.rs", ".ok_or(3)", "3", &["4"]),
-        once("reader.rs", "let tangents =", "ends == 0", &["ends != 1"]),
+    once("reader.rs", "let tangents =", "ends == 0", &["ends != 1"]),
     once("reader.rs", "let tangents =", "payload.len() != 7 + 12 * count + tangents", &[
         "payload.len() < 7 + 12 * count + tangents",
         "kind <= LAST_TYPE && payload.len() != 7 + 12 * count + tangents",
     ]),
-    once("reader.rs", "let tangents =", "kind > LAST_TYPE", &["kind >= LAST_TYPE", "kind > LAST_TYPE && plan.lanes.len() < MOST_LANES"]),
-    once("reader.rs", "let tangents =", "direction > LAST_DIRECTION", &["direction >= LAST_DIRECTION", "direction > 3"]),
+    once("reader.rs", "let tangents =", "kind > LAST_TYPE", &[
+        "kind >= LAST_TYPE",
+        "kind > LAST_TYPE && plan.lanes.len() < MOST_LANES",
+    ]),
+    once("reader.rs", "let tangents =", "direction > LAST_DIRECTION", &[
+        "direction >= LAST_DIRECTION",
+        "direction > 3",
+    ]),
     once("reader.rs", "let tangents =", "ends > 1", &["ends > 2"]),
     once("reader.rs", "let tangents =", "count < 2", &["count < 3", "count < 2 && plan.lanes.len() < 256"]),
     once("reader.rs", "let points: Vec", "(-FARTHEST..=FARTHEST).contains(c)", &[
@@ -210,31 +315,67 @@ pub const WRONG: &[Wrong] = &[
         "c.abs() <= FARTHEST.next_up()",
         "!(c.abs() > FARTHEST)",
     ]),
-    once("reader.rs", "let points_before", "plan.lanes.len() + 1 > MOST_LANES", &["plan.lanes.len() + 1 >= MOST_LANES", "plan.lanes.len() > MOST_LANES"]),
-    once("reader.rs", "let points_before", "points_before + count > MOST_POINTS", &["points_before + count >= MOST_POINTS", "points_before + count > MOST_POINTS + 1"]),
+    once("reader.rs", "let points_before", "plan.lanes.len() + 1 > MOST_LANES", &[
+        "plan.lanes.len() + 1 >= MOST_LANES",
+        "plan.lanes.len() > MOST_LANES",
+    ]),
+    once("reader.rs", "let points_before", "points_before + count > MOST_POINTS", &[
+        "points_before + count >= MOST_POINTS",
+        "points_before + count > MOST_POINTS + 1",
+    ]),
     once("reader.rs", "fn read_link(", "payload.len() != 5", &["payload.len() < 5"]),
     once("reader.rs", "fn read_link(", "role > LAST_ROLE", &["role >= LAST_ROLE", "role > 3"]),
-    once("reader.rs", "fn read_link(", "plan.links.len() + 1 > MOST_LINKS", &["plan.links.len() + 1 >= MOST_LINKS", "plan.links.len() > MOST_LINKS"]),
+    once("reader.rs", "fn read_link(", "plan.links.len() + 1 > MOST_LINKS", &[
+        "plan.links.len() + 1 >= MOST_LINKS",
+        "plan.links.len() > MOST_LINKS",
+    ]),
     once("reader.rs", "let stations: Vec", "(0.0..=LAST_STATION).contains(s)", &[
         "(0.0..LAST_STATION).contains(s)",
         "(0.0 < *s && *s <= LAST_STATION)",
         "(s.is_sign_positive() && *s <= LAST_STATION)",
         "(0.0..=LAST_STATION.next_up()).contains(s)",
     ]),
-    once("reader.rs", "let rising =", "pair[0] < pair[1]", &["pair[0] <= pair[1]", "pair[0].total_cmp(&pair[1]).is_lt()"]),
+    once("reader.rs", "let rising =", "pair[0] < pair[1]", &[
+        "pair[0] <= pair[1]",
+        "pair[0].total_cmp(&pair[1]).is_lt()",
+    ]),
     once("reader.rs", "let rising =", "start > end", &["start >= end", "start.total_cmp(&end).is_gt()", "false"]),
     once("reader.rs", "let rising =", "!on_road(&end)", &["false"]),
-    once("reader.rs", "let stations_before", "plan.sections.len() + 1 > MOST_SECTIONS", &["plan.sections.len() + 1 >= MOST_SECTIONS", "plan.sections.len() > MOST_SECTIONS"]),
-    once("reader.rs", "let stations_before", "stations_before + count > MOST_STATIONS", &["stations_before + count >= MOST_STATIONS", "stations_before + count > MOST_STATIONS + 1"]),
-    once("reader.rs", "fn read_place(", "plan.places.len() + 1 > MOST_PLACES", &["plan.places.len() + 1 >= MOST_PLACES", "plan.places.len() > MOST_PLACES"]),
+    once("reader.rs", "let stations_before", "plan.sections.len() + 1 > MOST_SECTIONS", &[
+        "plan.sections.len() + 1 >= MOST_SECTIONS",
+        "plan.sections.len() > MOST_SECTIONS",
+    ]),
+    once("reader.rs", "let stations_before", "stations_before + count > MOST_STATIONS", &[
+        "stations_before + count >= MOST_STATIONS",
+        "stations_before + count > MOST_STATIONS + 1",
+    ]),
+    once("reader.rs", "fn read_place(", "plan.places.len() + 1 > MOST_PLACES", &[
+        "plan.places.len() + 1 >= MOST_PLACES",
+        "plan.places.len() > MOST_PLACES",
+    ]),
     once("reader.rs", "fn read_beside(", "side > LAST_SIDE", &["side >= LAST_SIDE", "side > 2"]),
     once("reader.rs", "let twice =", "stands_twice(plan.places.iter().map(|place| place.lane))", &["false"]),
-    once("reader.rs", "let twice =", "(place.road, place.index, place.od_id)", &["(0, place.index, place.od_id)", "(place.road, 0, place.od_id)", "(place.road, place.index, place.od_id.abs())"]),
+    once("reader.rs", "let twice =", "(place.road, place.index, place.od_id)", &[
+        "(0, place.index, place.od_id)",
+        "(place.road, 0, place.od_id)",
+        "(place.road, place.index, place.od_id.abs())",
+    ]),
     once("reader.rs", "let twice =", "(section.road, section.index)", &["(0, section.index)"]),
-    once("reader.rs", "if twice", "twice", &["twice && plan.links.iter().all(|l| plan.lanes.iter().any(|x| x.number == l.from))", "false"]),
-    once("reader.rs", "if !plan.links", "lane(link.from).is_some()", &["lane(link.from).is_some() && lane(link.to).is_some()", "link.role == 2 || lane(link.from).is_some()"]),
-    once("reader.rs", "let section = plan.sections", "s.road == place.road && s.index == place.index", &["s.index == place.index", "s.road == place.road"]),
-    once("reader.rs", "(Some(lane), Some(section))", "lane.points.len() == section.stations.len()", &["lane.points.len() <= section.stations.len()"]),
+    once("reader.rs", "if twice", "twice", &[
+        "twice && plan.links.iter().all(|l| plan.lanes.iter().any(|x| x.number == l.from))",
+        "false",
+    ]),
+    once("reader.rs", "if !plan.links", "lane(link.from).is_some()", &[
+        "lane(link.from).is_some() && lane(link.to).is_some()",
+        "link.role == 2 || lane(link.from).is_some()",
+    ]),
+    once("reader.rs", "let section = plan.sections", "s.road == place.road && s.index == place.index", &[
+        "s.index == place.index",
+        "s.road == place.road",
+    ]),
+    once("reader.rs", "(Some(lane), Some(section))", "lane.points.len() == section.stations.len()", &[
+        "lane.points.len() <= section.stations.len()",
+    ]),
     // From records to lanes.
     Wrong {
         file: "bake.rs",
@@ -246,16 +387,24 @@ pub const WRONG: &[Wrong] = &[
     },
     once("bake.rs", "successors: linked(0)", "linked(0)", &["linked(1)"]),
     once("bake.rs", "neighbors: linked(2)", "linked(2)", &["Vec::new()"]),
-    once("bake.rs", "kind: TYPES", "usize::from(lane.kind)", &["usize::from(lane.kind.max(1))", "usize::from(lane.kind).min(26)"]),
+    once("bake.rs", "kind: TYPES", "usize::from(lane.kind)", &[
+        "usize::from(lane.kind.max(1))",
+        "usize::from(lane.kind).min(26)",
+    ]),
     // The numbers of queries.
     once("answer.rs", "pub fn nearest(", "c.is_finite()", &["!c.is_nan()"]),
     once("answer.rs", "pub fn route(", "c.is_finite()", &["!c.is_nan()"]),
     once("answer.rs", "pub fn route(", "chain.len() > MOST_CHAIN", &["chain.len() >= MOST_CHAIN"]),
     once("answer.rs", "pub fn route(", "points.len() > MOST_ROUTE_POINTS", &["points.len() >= MOST_ROUTE_POINTS"]),
-    once("answer.rs", "pub fn advance(", "net.centerline_s(from).is_none()", &["distance.is_finite() && net.centerline_s(from).is_none()"]),
+    once("answer.rs", "pub fn advance(", "net.centerline_s(from).is_none()", &[
+        "distance.is_finite() && net.centerline_s(from).is_none()",
+    ]),
     once("answer.rs", "pub fn advance(", "!distance.is_finite()", &["distance.is_nan()"]),
     once("answer.rs", "pub fn advance(", "keys > MOST_KEYS", &["keys >= MOST_KEYS"]),
-    once("answer.rs", "pub fn advance(", "positions.len() > MOST_POSITIONS", &["positions.len() >= MOST_POSITIONS", "false"]),
+    once("answer.rs", "pub fn advance(", "positions.len() > MOST_POSITIONS", &[
+        "positions.len() >= MOST_POSITIONS",
+        "false",
+    ]),
     once("answer.rs", "pub fn beside(", "net.centerline_s(at).is_none()", &["net.road_lane(at.lane).is_none()"]),
     once("answer.rs", "side > LAST_SIDE =>", "self.plan.as_ref().err().copied().unwrap_or(5)", &[
         "self.network.as_ref().err().copied().unwrap_or(5)",
@@ -336,12 +485,6 @@ pub const EQUAL: &[Equal] = &[
         "(toward - from).signum()",
         "if toward == from { 0.0 } else { (toward - from).signum() }",
         "the clamp leaves one value",
-    ),
-    equal(
-        "route.rs",
-        "span.abs() < 1e-4",
-        "span.abs() <= 1e-4",
-        "s that lie exactly 1e-4 apart are so small that the second sample is within 1 mm of the first and is dropped",
     ),
     equal("advance.rs", "distance >= 0.0", "distance > 0.0", STAYS),
     equal("advance.rs", "distance >= 0.0", "distance.is_sign_positive()", STAYS),

@@ -63,7 +63,7 @@ impl Rng {
         }
     }
 
-    /// A float of the kinds that break things, or any bits.
+    /// A float at the end of a range or by a threshold, a zero, an infinity, a NaN, or any bits.
     pub fn odd_f32(&mut self) -> f32 {
         const ODD: [u32; 22] = [
             0x0000_0000,

@@ -1,4 +1,4 @@
-//! The generator, the shrinking and the comparer.
+//! The generator, the shrinking, the comparer, the fixed list, and the figures of the papers.
 
 use std::collections::BTreeMap;
 use std::path::Path;
@@ -90,7 +90,7 @@ fn compare(arguments: &[&str]) -> (bool, String) {
 fn the_comparer_agrees_and_reports() {
     let program = env!("CARGO_BIN_EXE_oracle-run");
     let (agreed, text) = compare(&["--count", "300", "oracle", program]);
-    assert!(agreed && text.contains("300 plans, no difference"), "{text}");
+    assert!(agreed && text.contains("300 passed, 0 failed"), "{text}");
     // A program that prints nothing differs on the first plan, and on the empty file it shrinks to.
     let (agreed, text) = compare(&["--count", "5", "oracle", "true"]);
     assert!(!agreed && text.contains("shrunk to 0"), "{text}");
@@ -132,4 +132,36 @@ fn the_fixed_list_replays() {
     for name in names(&folder) {
         assert_eq!(std::fs::read(folder.join(&name)).unwrap(), std::fs::read(made.join(&name)).unwrap(), "{name}");
     }
+}
+
+/// The last line of a script that counts.
+fn last_line(script: &str, arguments: &[&str]) -> String {
+    let script = Path::new(env!("CARGO_MANIFEST_DIR")).join(script);
+    let output = Command::new(script).args(arguments).output().unwrap();
+    String::from_utf8_lossy(&output.stdout).lines().last().unwrap_or_default().to_string()
+}
+
+#[test]
+fn replay_counts() {
+    let program = env!("CARGO_BIN_EXE_oracle-run");
+    assert_eq!(last_line("replay", &[program]), "409 passed, 0 failed");
+    assert_eq!(last_line("replay", &["--query", &format!("{program} --query /dev/stdin")]), "152 passed, 0 failed");
+    // It prints what it should, and then fails.
+    let failing = Path::new(env!("CARGO_TARGET_TMPDIR")).join("failing");
+    std::fs::write(&failing, format!("{program}\nexit 3\n")).unwrap();
+    assert_eq!(last_line("replay", &[&format!("sh {}", failing.display())]), "0 passed, 409 failed");
+}
+
+#[test]
+fn the_papers_have_the_figures_of_the_table() {
+    let table = include_str!(concat!(env!("OUT_DIR"), "/wrong/table.rs"));
+    let wrong: Vec<&str> = table.lines().filter(|line| line.starts_with("    (")).collect();
+    let told = wrong.iter().filter(|line| line.ends_with(", \"\"),")).count();
+    let (all, equal) = (wrong.len(), wrong.len() - told);
+    let (readme, list) = (include_str!("../README.md"), include_str!("../WRONG.md"));
+    assert!(list.contains(&format!("\n{all} oracles with")));
+    assert!(list.contains(&format!("\n## Told apart: {told}\n")));
+    assert!(list.contains(&format!("\n## Not told apart, since nothing can: {equal}\n")));
+    assert!(readme.contains(&format!("`wrong-oracles` holds {all} oracles")));
+    assert!(readme.contains(&format!("{told} are told apart; {equal} answer")));
 }

@@ -93,7 +93,7 @@ at-units x y p q R h =
     subst (λ (v : Z). R v (val y)) (sym (units-of x p .is))
     (subst (λ (v : Z). R (sgn (units-of x p .s) (units-of x p .w)) v) (sym (units-of y q .is)) h)
 
-val-of : (x : Float) (s : Bool) (w : ℕ) → T (fits binary32 x) → HasValue x s w U → val x ≡ sgn s w
+pub val-of : (x : Float) (s : Bool) (w : ℕ) → T (fits binary32 x) → HasValue x s w U → val x ≡ sgn s w
 unfolding val
 val-of nan s w t h = absurd h
 val-of (inf r) s w t h = absurd h

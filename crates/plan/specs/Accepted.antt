@@ -1,5 +1,5 @@
 -- What an accepted plan guarantees, for the crates above: counts, ranges, numbers that stand once, rows that exist.
-use mathlib.Core.Bool.{Bool, cond, false, true, _&&_}
+use mathlib.Core.Bool.{Bool, false, true, _&&_}
 use mathlib.Core.List.{List, [], map, _∷_}
 use mathlib.Core.Path.{ap, refl, subst, sym, _∙_, _≡_}
 use Prim.Native.Nat.{suc, zero, ℕ, _*_, _+_, _<_, _≤_}
@@ -10,9 +10,13 @@ use lib.Ieee.{Float, le, lt}
 use lib.ListN.{getD, length, length-map, replicate, set}
 use borrow.Author.Tests.{eqb-false, eqb-true, leb-true, ltb-false, ltb-true, not-false}
 use Rattle.fields.specs.Fields.{f32At, f64At, u16At, u32At, u8At}
+use Rattle.plan_format.specs.Decodes.{decodes}
 use Rattle.plan_format.specs.Laws.{Bytes, and-fst, and-snd, any-none, every-each, getD-map-in, or-fst, or-snd, word-below}
 use Rattle.plan_format.specs.Lookup.{index-in}
-use Rattle.plan_format.specs.Plan.{Plan, Starts, Walked, accepted, any, coordinate, countsOf, decode, ended, every, fromMissing, inRange, itemsAt, judged, lacks, laneCount, laneOf, laneRange, misplaced, none, numberOf, placeKey, placeLane, placeSection, planOf, recordNumber, refused, repeats, rises, risesFrom, sectionCount, sectionKey, sectionOf, sectionRange, settled, station, stopped, twice, walked}
+use Rattle.plan_format.specs.Plan.{Plan, Starts, Walked, accepted, any, coordinate, countsOf, decode, ended, every, fromMissing}
+use Rattle.plan_format.specs.Plan.{inRange, itemsAt, lacks, laneCount, laneOf, laneRange, misplaced, none, numberOf, placeKey}
+use Rattle.plan_format.specs.Plan.{placeLane, placeSection, planOf, recordNumber, refused, repeats, rises, risesFrom, sectionCount}
+use Rattle.plan_format.specs.Plan.{sectionKey, sectionOf, sectionRange, station, twice, walked}
 use Rattle.plan_format.specs.Reading.{planCounts, readOf}
 use Rattle.plan_format.specs.Records.{Lane, Link, Place, Section, laneAt, linkAt, sectionAt}
 use Rattle.plan_format.specs.Tables.{endRow}
@@ -56,7 +60,8 @@ pub record SectionOk (x : Section) : Type 0 where
 pub record PlaceOk (p : Plan) (x : Place) : Type 0 where
   pub lane : laneOf p (x .lane) < length (p .lanes)
   pub section : sectionOf p (placeSection x) < length (p .sections)
-  pub alike : (d : Lane) (e : Section) → getD (p .lanes) (laneOf p (x .lane)) d .count ≡ getD (p .sections) (sectionOf p (placeSection x)) e .count
+  pub alike : (d : Lane) (e : Section)
+      → getD (p .lanes) (laneOf p (x .lane)) d .count ≡ getD (p .sections) (sectionOf p (placeSection x)) e .count
 
 pub record Accepted (p : Plan) : Type 0 where
   pub limited : Limited (planCounts p)
@@ -88,7 +93,9 @@ module _ (s : List ℕ) (a : Starts) (is : walked s ≡ ended a) where
       let v = eqb-true (recordNumber s at c) 0 f in
       let kind = u16At s (at + 4) in
       let items = itemsAt s at kind in
-      let next = next-as s at c (recordNumber s at c) refl v kind (u32At s at) refl refl h S q items (slotOf kind c) (more kind items c) refl refl refl in
+      let next =
+      next-as s at c (recordNumber s at c) refl v kind (u32At s at) refl refl h S q items (slotOf kind c)
+      (more kind items c) refl refl refl in
       go (at + 6 + u32At s at) (more kind items c) (set h (slotOf kind c) at) next (omega arith)
   step n go at c h S l true false e f =
       let q = ltb-true at (length s) e in
@@ -202,7 +209,8 @@ module _ (p : Plan) (few : length (p .lanes) ≤ 256) (some : length (p .section
       }
 
 -- the plan of a file whose walk ended
-accepted-by : (s : List ℕ) → Bytes s → (a : Starts) → walked s ≡ ended a → twice (planOf s a) ≡ false → lacks (planOf s a) ≡ false → Accepted (planOf s a)
+accepted-by : (s : List ℕ) → Bytes s → (a : Starts) → walked s ≡ ended a → twice (planOf s a) ≡ false → lacks (planOf s a) ≡ false
+    → Accepted (planOf s a)
 unfolding twice
 accepted-by s B a is once full =
     let p = planOf s a in
@@ -219,7 +227,8 @@ accepted-by s B a is once full =
           rw (getD-map-in (laneAt s) (a .lanes) i 0 d k) (lane-ok s B (getD (a .lanes) i 0) (S .lanes i k .range));
       link = λ i d h.
           let k : i < length (a .links) = omega (arith, length-map (a .links) (linkAt s)) in
-          link-ok p few some full i d h (rw (getD-map-in (linkAt s) (a .links) i 0 d k) (role-ok s B (getD (a .links) i 0) (S .links i k .range)));
+          link-ok p few some full i d h
+          (rw (getD-map-in (linkAt s) (a .links) i 0 d k) (role-ok s B (getD (a .links) i 0) (S .links i k .range)));
       section = λ i d h.
           let k : i < length (a .sections) = omega (arith, length-map (a .sections) (sectionAt s)) in
           rw (getD-map-in (sectionAt s) (a .sections) i 0 d k) (section-ok s B (getD (a .sections) i 0) (S .sections i k .range));
@@ -231,21 +240,7 @@ accepted-by s B a is once full =
     }
 
 -- THE LAW
-never : (n : ℕ) (p : Plan) → refused n ≡ accepted p → ⊥
-never n p e = let z : _≡_ {A = ℕ} 0 1 = cc in omega arith
-
 pub accepted-plan : (side : ℕ) (s : List ℕ) (p : Plan) → Bytes s → decode side s ≡ accepted p → Accepted p
-unfolding decode settled judged
-accepted-plan side s p B e = size (ltb 65536 (length s)) (walked s) refl e
-  where
-    free : (a : Starts) → walked s ≡ ended a → (b c d : Bool) → twice (planOf s a) ≡ c → lacks (planOf s a) ≡ d
-        → cond b (refused 5) (cond c (refused 7) (cond d (refused 8) (accepted (planOf s a)))) ≡ accepted p → Accepted p
-    free a is true c d ec ed e = absurd (never 5 p e)
-    free a is false true d ec ed e = absurd (never 7 p e)
-    free a is false false true ec ed e = absurd (never 8 p e)
-    free a is false false false ec ed e = let same : planOf s a ≡ p = cc in subst Accepted same (accepted-by s B a is ec ed)
-
-    size : (b : Bool) (w : Walked) → walked s ≡ w → cond b (refused 2) (settled side s w) ≡ accepted p → Accepted p
-    size true w is e = absurd (never 2 p e)
-    size false (stopped n) is e = absurd (never n p e)
-    size false (ended a) is e = free a is (ltb 1 side) (twice (planOf s a)) (lacks (planOf s a)) refl refl e
+accepted-plan side s p B e =
+    let D = decodes side s p e in
+    subst Accepted (D .plan) (accepted-by s B (D .starts) (D .is) (D .once) (D .full))

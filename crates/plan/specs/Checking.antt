@@ -8,7 +8,8 @@ use lib.Dec.{T, eqb}
 use lib.ListN.{drop, length, length-map, take}
 use borrow.Author.Tests.{eq-eqb, le-ltb, lt-ltb, ne-eqb}
 use Rattle.fields.specs.Fields.{u16At}
-use Rattle.plan_format.specs.Plan.{Starts, Walked, accepted, any, countsOf, decode, ended, fromMissing, laneCount, planOf, refused, repeats, sectionCount, settled, stopped, walked}
+use Rattle.plan_format.specs.Plan.{Starts, Walked, accepted, any, countsOf, decode, ended, fromMissing, laneCount, planOf, refused}
+use Rattle.plan_format.specs.Plan.{repeats, sectionCount, settled, stopped, walked}
 use Rattle.plan_format.specs.Reading.{planCounts, readOf, sum}
 use Rattle.plan_format.specs.Records.{laneAt, linkAt, placeAt, sectionAt}
 use Rattle.plan_format.specs.declared.Counts.{Counts}
@@ -96,7 +97,8 @@ module _ (s : List ℕ) where
   section-total [] = refl
   section-total (p ∷ xs) = ap (λ (n : ℕ). u16At s (p + 26) + n) (section-total xs)
 
-  pub plan-counts : (a : Starts) → a .points ≡ total s 11 (a .lanes) → a .stations ≡ total s 26 (a .sections) → countsOf a ≡ planCounts (planOf s a)
+  pub plan-counts : (a : Starts) → a .points ≡ total s 11 (a .lanes) → a .stations ≡ total s 26 (a .sections)
+      → countsOf a ≡ planCounts (planOf s a)
   plan-counts a points stations =
       rw (
         lane-total (a .lanes),
@@ -110,7 +112,8 @@ module _ (s : List ℕ) where
       )
 
 -- THE SCAN
-standing-by : (s : List ℕ) (w : Walked) (r : Read) (h : List ℕ) → walked s ≡ w → r .number ≡ 0 → Scanned s w r h → length s ≤ 65536 → Standing s (r .counts) h
+standing-by : (s : List ℕ) (w : Walked) (r : Read) (h : List ℕ) → walked s ≡ w → r .number ≡ 0 → Scanned s w r h → length s ≤ 65536
+    → Standing s (r .counts) h
 standing-by s (stopped v) r h e z T l = absurd (T .1 (sym (ap (λ (x : Read). x .number) (T .0)) ∙ z))
 standing-by s (ended a) r h e z T l =
     record { starts = a; is = e; counts = ap (λ (x : Read). x .counts) (T .0); limited = T .1; kept = T .2; sound = T .3; small = l }
@@ -118,7 +121,8 @@ standing-by s (ended a) r h e z T l =
 pub standing : (s : List ℕ) (r : Read) (h : List ℕ) → r .number ≡ 0 → Scanned s (walked s) r h → length s ≤ 65536 → Standing s (r .counts) h
 standing s r h = standing-by s (walked s) r h refl
 
-stopped-by : (side : ℕ) (s : List ℕ) (w : Walked) (r : Read) (h : List ℕ) → walked s ≡ w → (r .number ≡ 0 → ⊥) → Scanned s w r h → length s ≤ 65536
+stopped-by : (side : ℕ) (s : List ℕ) (w : Walked) (r : Read) (h : List ℕ) → walked s ≡ w → (r .number ≡ 0 → ⊥) → Scanned s w r h
+    → length s ≤ 65536
     → r ≡ readOf (decode side s)
 unfolding decode settled
 stopped-by side s (stopped v) r h e z T l = rw (le-ltb 65536 (length s) l, e) (T .0)
@@ -151,7 +155,8 @@ module _ (side : ℕ) (s : List ℕ) (c : Counts) (h : List ℕ) (K : Standing s
   abbrev ps : List ℕ
   ps = K .starts .places
 
-  decode-is : (d : ℕ) → decode d s ≡ cond (eqb (wholeIn s d ls ks ss ps) 0) (accepted (planOf s (K .starts))) (refused (wholeIn s d ls ks ss ps))
+  decode-is : (d : ℕ)
+      → decode d s ≡ cond (eqb (wholeIn s d ls ks ss ps) 0) (accepted (planOf s (K .starts))) (refused (wholeIn s d ls ks ss ps))
   unfolding decode settled
   decode-is d = rw (le-ltb 65536 (length s) (K .small), K .is) (judged-is s d (K .starts))
 

@@ -11,14 +11,16 @@ use Rattle.plan_format.specs.Laws.{or-fst, or-snd}
 use Rattle.plan_format.specs.Plan.{Decoded, Plan, accepted, decode, laneCount, planOf, refused, sectionCount}
 use Rattle.plan_format.specs.Reading.{Answers, opened, readOf, short, tablesOf}
 use Rattle.plan_format.specs.Records.{Link, laneAt, linkAt, placeAt, sectionAt}
-use Rattle.plan_format.specs.Tables.{Tables, boundRow, endRow, fanRow, group, laneRow, linkCount, loaded, over, placeRow, pointRow, rows, rowsFrom, sectionRow, stationRow, tables}
+use Rattle.plan_format.specs.Tables.{Tables, boundRow, endRow, fanRow, group, laneRow, linkCount, loaded, over, placeRow, pointRow}
+use Rattle.plan_format.specs.Tables.{rows, rowsFrom, sectionRow, stationRow, tables}
 use Rattle.plan_format.specs.declared.Counts.{Counts}
 use Rattle.plan_format.specs.declared.Read.{Read}
 use Rattle.plan_links.specs.Linked.{Linkable}
 use Rattle.plan_scan.specs.Parts.{listed}
 use Rattle.plan_whole.specs.Keys.{keyAt, lane-keys, place-lanes}
 use Rattle.plan_whole.specs.Missing.{Searching}
-use Rattle.plan.specs.Checking.{Checked, Loadable, lanes-are, lanesIn, links-are, linksIn, parts-in, places-are, placesIn, sections-are, sectionsIn}
+use Rattle.plan.specs.Checking.{Checked, Loadable, lanes-are, lanesIn, links-are, linksIn, parts-in, places-are, placesIn}
+use Rattle.plan.specs.Checking.{sections-are, sectionsIn}
 
 -- NUMBER 1, by the lengths of the tables
 unfoldable pub shortBy : ℕ → ℕ → ℕ → ℕ → ℕ → ℕ → ℕ → ℕ → ℕ → Bool
@@ -115,7 +117,8 @@ module _ (s : List ℕ) (c : Counts) (h m : List ℕ) (K : Loadable s c h m) whe
         rows = rw (lanes-are s c h (K .standing)) (K .index);
       }
 
-  pub loaded-by : (t : Tables) (lanes : List ℕ) (points ends : List Float) (fans links sections : List ℕ) (bounds stations : List Float) (places : List ℕ)
+  pub loaded-by : (t : Tables) (lanes : List ℕ) (points ends : List Float) (fans links sections : List ℕ)
+      (bounds stations : List Float) (places : List ℕ)
       → lanes ≡ over (rowsFrom laneRow laneCount 0 (map (laneAt s) lane-starts)) (t .lanes)
       → points ≡ over (rows pointRow (map (laneAt s) lane-starts)) (t .points)
       → ends ≡ over (rows endRow (map (laneAt s) lane-starts)) (t .ends)

@@ -26,7 +26,9 @@ use plan_whole::whole;
 // The number of the whole file, after a scan that found none and these counts.
 fn check_whole(file: &[u8], side: usize, starts: &[usize], c: Counts, index: &mut [u16]) -> usize
     requires { ⌜ Standing (now file) c (now starts) × (length (now index) ≡ 65536) ⌝ }
-    ensures { λ r. ⌜ (r ≡ wholeIn (now (file .entry)) side (lanesIn c (now (starts .entry))) (linksIn c (now (starts .entry))) (sectionsIn c (now (starts .entry))) (placesIn c (now (starts .entry)))) × (r ≡ 0 → ByNumber (now (index .exit)) (map (keyAt (now (file .entry)) 0) (lanesIn c (now (starts .entry)))) 0) ⌝ }
+    ensures { λ r. ⌜ (r ≡ wholeIn (now (file .entry)) side (lanesIn c (now (starts .entry))) (linksIn c (now (starts .entry)))
+        (sectionsIn c (now (starts .entry))) (placesIn c (now (starts .entry))))
+        × (r ≡ 0 → ByNumber (now (index .exit)) (map (keyAt (now (file .entry)) 0) (lanesIn c (now (starts .entry)))) 0) ⌝ }
 {
     let a = c.lanes;
     let b = 256 + c.links;
@@ -76,8 +78,15 @@ pub fn load(
     stations: &mut [f64],
     places: &mut [usize],
 )
-    requires { ⌜ Loadable (now file) c (now starts) (now index) × Long (tables (now lanes) (now points) (now ends) (now fans) (now links) (now sections) (now bounds) (now stations) (now places)) ⌝ }
-    ensures { λ _. ⌜ Loads (now (file .entry)) (tables (now (lanes .entry)) (now (points .entry)) (now (ends .entry)) (now (fans .entry)) (now (links .entry)) (now (sections .entry)) (now (bounds .entry)) (now (stations .entry)) (now (places .entry))) (tables (now (lanes .exit)) (now (points .exit)) (now (ends .exit)) (now (fans .exit)) (now (links .exit)) (now (sections .exit)) (now (bounds .exit)) (now (stations .exit)) (now (places .exit))) ⌝ }
+    requires { ⌜ Loadable (now file) c (now starts) (now index)
+        × Long
+        (tables (now lanes) (now points) (now ends) (now fans) (now links) (now sections) (now bounds) (now stations)
+        (now places)) ⌝ }
+    ensures { λ _. ⌜ Loads (now (file .entry))
+        (tables (now (lanes .entry)) (now (points .entry)) (now (ends .entry)) (now (fans .entry)) (now (links .entry))
+        (now (sections .entry)) (now (bounds .entry)) (now (stations .entry)) (now (places .entry)))
+        (tables (now (lanes .exit)) (now (points .exit)) (now (ends .exit)) (now (fans .exit)) (now (links .exit))
+        (now (sections .exit)) (now (bounds .exit)) (now (stations .exit)) (now (places .exit))) ⌝ }
 {
     let a = c.lanes;
     let b = 256 + c.links;
@@ -152,7 +161,17 @@ pub fn read_plan(
     stations: &mut [f64],
     places: &mut [usize],
 ) -> Read
-    ensures { λ r. ⌜ Answers (opened (short (tables (now (lanes .entry)) (now (points .entry)) (now (ends .entry)) (now (fans .entry)) (now (links .entry)) (now (sections .entry)) (now (bounds .entry)) (now (stations .entry)) (now (places .entry)))) side (now (file .entry))) r (tables (now (lanes .entry)) (now (points .entry)) (now (ends .entry)) (now (fans .entry)) (now (links .entry)) (now (sections .entry)) (now (bounds .entry)) (now (stations .entry)) (now (places .entry))) (tables (now (lanes .exit)) (now (points .exit)) (now (ends .exit)) (now (fans .exit)) (now (links .exit)) (now (sections .exit)) (now (bounds .exit)) (now (stations .exit)) (now (places .exit))) ⌝ }
+    ensures { λ r. ⌜ Answers
+        (opened
+        (short
+        (tables (now (lanes .entry)) (now (points .entry)) (now (ends .entry)) (now (fans .entry)) (now (links .entry))
+        (now (sections .entry)) (now (bounds .entry)) (now (stations .entry)) (now (places .entry))))
+        side (now (file .entry)))
+        r
+        (tables (now (lanes .entry)) (now (points .entry)) (now (ends .entry)) (now (fans .entry)) (now (links .entry))
+        (now (sections .entry)) (now (bounds .entry)) (now (stations .entry)) (now (places .entry)))
+        (tables (now (lanes .exit)) (now (points .exit)) (now (ends .exit)) (now (fans .exit)) (now (links .exit))
+        (now (sections .exit)) (now (bounds .exit)) (now (stations .exit)) (now (places .exit))) ⌝ }
 {
     if are_short(
         lanes.len(),

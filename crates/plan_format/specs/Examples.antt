@@ -6,7 +6,9 @@ use lib.Ieee.{Float, binary32, le, lt, ofBits}
 use lib.ListN.{length}
 use borrow.Author.Tests.{lt-ltb}
 use Rattle.fields.specs.Fields.{u32At, u64At}
-use Rattle.plan_format.specs.Plan.{Decoded, accepted, any, decode, every, fits, inRange, indexOf, judged, lacks, laneCount, laneFits, laneRange, numberOf, placeLane, recordNumber, refused, repeats, rises, risesFrom, sectionFits, sectionRange, settled, twice, walk, walked, withRecord, within}
+use Rattle.plan_format.specs.Plan.{Decoded, accepted, any, decode, every, fits, inRange, indexOf, judged, lacks, laneCount}
+use Rattle.plan_format.specs.Plan.{laneFits, laneRange, numberOf, placeLane, recordNumber, refused, repeats, rises, risesFrom}
+use Rattle.plan_format.specs.Plan.{sectionFits, sectionRange, settled, twice, walk, walked, withRecord, within}
 use Rattle.plan_format.specs.Records.{Lane, queryAt, raisedAt, run}
 use Rattle.plan_format.specs.Tables.{fanRow, group, laneRow, linkCount, linked, rows, rowsFrom}
 use Rattle.plan_format.specs.declared.Counts.{Counts}
@@ -23,38 +25,35 @@ made kind payload = bytes 4 (length payload) ++ (bytes 2 kind ++ payload)
 
 -- an f32 by its bits
 point : ℕ → ℕ → ℕ → List ℕ
-unfolding bytes
 point x y z = bytes 4 x ++ (bytes 4 y ++ bytes 4 z)
 
 -- a Driving lane without ends that goes straight along x
 straight : ℕ → ℕ → ℕ → List ℕ
-unfolding bytes made point
 straight n from to = made 1 (bytes 2 n ++ (1 ∷ 0 ∷ 0 ∷ bytes 2 2 ++ (point from 0 0 ++ point to 0 0)))
 
 link : ℕ → ℕ → ℕ → List ℕ
-unfolding bytes made
 link from role to = made 2 (bytes 2 from ++ (role ∷ bytes 2 to))
 
 -- stations 0 and 8
 section : ℕ → ℕ → List ℕ
-unfolding bytes made
 section road index =
-    made 3 (bytes 2 road ++ (bytes 2 index ++ (bytes 8 0 ++ (bytes 8 0x4020000000000000 ++ (bytes 2 2 ++ (bytes 8 0 ++ bytes 8 0x4020000000000000))))))
+    made 3
+    (bytes 2 road ++
+    (bytes 2 index ++ (bytes 8 0 ++ (bytes 8 0x4020000000000000 ++ (bytes 2 2 ++ (bytes 8 0 ++ bytes 8 0x4020000000000000))))))
 
 place : ℕ → ℕ → ℕ → ℕ → List ℕ
-unfolding bytes made
 place lane road index number = made 4 (bytes 2 lane ++ (bytes 2 road ++ (bytes 2 index ++ bytes 4 number)))
 
 -- the file printed in document 01: lanes 1 and 2, a link, a route from (2,0,0) to (12,0,0)
 printed : List ℕ
-unfolding bytes made point straight link
-printed = straight 1 0 0x41000000 ++ (straight 2 0x41000000 0x41800000 ++ (link 1 0 2 ++ made 16 (point 0x40000000 0 0 ++ point 0x41400000 0 0)))
+printed =
+    straight 1 0 0x41000000 ++
+    (straight 2 0x41000000 0x41800000 ++ (link 1 0 2 ++ made 16 (point 0x40000000 0 0 ++ point 0x41400000 0 0)))
 
 f32 : ℕ → Float
 f32 n = ofBits binary32 n
 
 driving : ℕ → ℕ → ℕ → Lane
-unfolding f32
 driving n from to =
     record {
       number = n;
@@ -75,7 +74,10 @@ printed-plan :
       places = [];
       queries = Route (f32 0x40000000) (f32 0) (f32 0) (f32 0x41400000) (f32 0) (f32 0) ∷ [];
     })
-unfolding ofBits le lt u32At u64At run raisedAt queryAt laneFits sectionFits fits every any risesFrom rises laneRange sectionRange inRange within recordNumber withRecord walk walked indexOf repeats twice lacks judged settled decode bytes made point straight link section place f32 driving printed
+unfolding
+    ofBits le lt u32At u64At run raisedAt queryAt laneFits sectionFits fits every any risesFrom rises laneRange sectionRange
+    inRange within recordNumber withRecord walk walked indexOf repeats twice lacks judged settled decode bytes made point
+    straight link section place f32 driving printed
 printed-plan = refl
 
 numberIs : Decoded → ℕ
@@ -96,113 +98,109 @@ fansIn (refused n) = []
 fansIn (accepted p) =
     rowsFrom (fanRow (p .links) (map placeLane (p .places))) (linkCount (p .links)) 0 (map numberOf (p .lanes))
 
-printed-lanes : lanesIn (decode 0 printed) ≡ 1 ∷ 1 ∷ 0 ∷ 0 ∷ 0 ∷ 2 ∷ 2 ∷ 1 ∷ 0 ∷ 0 ∷ 2 ∷ 2 ∷ []
-unfolding ofBits le lt u32At u64At run raisedAt queryAt laneFits sectionFits fits every any risesFrom rises laneRange sectionRange inRange within recordNumber withRecord walk walked indexOf repeats twice lacks judged settled decode bytes made point straight link section place f32 driving printed rows rowsFrom linked lanesIn
-printed-lanes = refl
+printed-tables :
+    (lanesIn (decode 0 printed) ≡ 1 ∷ 1 ∷ 0 ∷ 0 ∷ 0 ∷ 2 ∷ 2 ∷ 1 ∷ 0 ∷ 0 ∷ 2 ∷ 2 ∷ [])
+    × (linksIn (decode 0 printed) ≡ 2 ∷ 1 ∷ [])
+    × (fansIn (decode 0 printed) ≡ 0 ∷ 1 ∷ 0 ∷ 0 ∷ 256 ∷ 1 ∷ 0 ∷ 0 ∷ 0 ∷ 256 ∷ [])
+unfolding
+    ofBits le lt u32At u64At run raisedAt queryAt laneFits sectionFits fits every any risesFrom rises laneRange sectionRange
+    inRange within recordNumber withRecord walk walked indexOf repeats twice lacks judged settled decode bytes made point
+    straight link section place f32 driving printed rows rowsFrom linked lanesIn linksIn fansIn
+printed-tables = (refl, refl, refl)
 
-printed-links : linksIn (decode 0 printed) ≡ 2 ∷ 1 ∷ []
-unfolding ofBits le lt u32At u64At run raisedAt queryAt laneFits sectionFits fits every any risesFrom rises laneRange sectionRange inRange within recordNumber withRecord walk walked indexOf repeats twice lacks judged settled decode bytes made point straight link section place f32 driving printed rows rowsFrom linked linksIn
-printed-links = refl
+-- 0: an empty file is a plan without lanes
+empty : List ℕ
+empty = []
 
-printed-fans : fansIn (decode 0 printed) ≡ 0 ∷ 1 ∷ 0 ∷ 0 ∷ 256 ∷ 1 ∷ 0 ∷ 0 ∷ 0 ∷ 256 ∷ []
-unfolding ofBits le lt u32At u64At run raisedAt queryAt laneFits sectionFits fits every any risesFrom rises laneRange sectionRange inRange within recordNumber withRecord walk walked indexOf repeats twice lacks judged settled decode bytes made point straight link section place f32 driving printed rows rowsFrom linked fansIn
-printed-fans = refl
+-- 3: under six header bytes
+five-bytes : List ℕ
+five-bytes = 1 ∷ 0 ∷ 0 ∷ 0 ∷ 0 ∷ []
 
--- an empty file is a plan without lanes
-empty : numberIs (decode 0 ([])) ≡ 0
-unfolding ofBits le lt u32At u64At run raisedAt queryAt laneFits sectionFits fits every any risesFrom rises laneRange sectionRange inRange within recordNumber withRecord walk walked indexOf repeats twice lacks judged settled decode bytes made point straight link section place f32 driving printed numberIs
-empty = refl
+-- 3: a record that runs past the file, whatever its kind
+past-the-end : List ℕ
+past-the-end = bytes 4 1 ++ bytes 2 99
 
--- under six header bytes
-five-bytes : numberIs (decode 0 (1 ∷ 0 ∷ 0 ∷ 0 ∷ 0 ∷ [])) ≡ 3
-unfolding ofBits le lt u32At u64At run raisedAt queryAt laneFits sectionFits fits every any risesFrom rises laneRange sectionRange inRange within recordNumber withRecord walk walked indexOf repeats twice lacks judged settled decode bytes made point straight link section place f32 driving printed numberIs
-five-bytes = refl
+-- 4: an unknown kind
+unknown-kind : List ℕ
+unknown-kind = made 5 []
 
--- a record that runs past the file, whatever its kind
-past-the-end : numberIs (decode 0 (bytes 4 1 ++ bytes 2 99)) ≡ 3
-unfolding ofBits le lt u32At u64At run raisedAt queryAt laneFits sectionFits fits every any risesFrom rises laneRange sectionRange inRange within recordNumber withRecord walk walked indexOf repeats twice lacks judged settled decode bytes made point straight link section place f32 driving printed numberIs
-past-the-end = refl
+-- 4: a length that does not fit its kind
+wrong-length : List ℕ
+wrong-length = made 4 (bytes 9 0)
 
--- an unknown kind
-unknown-kind : numberIs (decode 0 (made 5 [])) ≡ 4
-unfolding ofBits le lt u32At u64At run raisedAt queryAt laneFits sectionFits fits every any risesFrom rises laneRange sectionRange inRange within recordNumber withRecord walk walked indexOf repeats twice lacks judged settled decode bytes made point straight link section place f32 driving printed numberIs
-unknown-kind = refl
+-- 0: coordinates -4,096 and 4,096 pass
+edge : List ℕ
+edge = straight 1 0xc5800000 0x45800000
 
--- a length that does not fit its kind
-wrong-length : numberIs (decode 0 (made 4 (bytes 9 0))) ≡ 4
-unfolding ofBits le lt u32At u64At run raisedAt queryAt laneFits sectionFits fits every any risesFrom rises laneRange sectionRange inRange within recordNumber withRecord walk walked indexOf repeats twice lacks judged settled decode bytes made point straight link section place f32 driving printed numberIs
-wrong-length = refl
+-- 5: the next f32 above 4,096 does not
+above : List ℕ
+above = straight 1 0 0x45800001
 
--- coordinates -4,096 and 4,096 pass
-edge : numberIs (decode 0 (straight 1 0xc5800000 0x45800000)) ≡ 0
-unfolding ofBits le lt u32At u64At run raisedAt queryAt laneFits sectionFits fits every any risesFrom rises laneRange sectionRange inRange within recordNumber withRecord walk walked indexOf repeats twice lacks judged settled decode bytes made point straight link section place f32 driving printed numberIs
-edge = refl
+-- 5: one point
+one-point : List ℕ
+one-point = made 1 (bytes 2 1 ++ (1 ∷ 0 ∷ 0 ∷ bytes 2 1 ++ point 0 0 0))
 
--- the next f32 above 4,096 does not
-above : numberIs (decode 0 (straight 1 0 0x45800001)) ≡ 5
-unfolding ofBits le lt u32At u64At run raisedAt queryAt laneFits sectionFits fits every any risesFrom rises laneRange sectionRange inRange within recordNumber withRecord walk walked indexOf repeats twice lacks judged settled decode bytes made point straight link section place f32 driving printed numberIs
-above = refl
+-- 5: ends 2, its length taken as with tangents
+two-ends : List ℕ
+two-ends = made 1 (bytes 2 1 ++ (1 ∷ 0 ∷ 2 ∷ bytes 2 2 ++ (bytes 24 0 ++ bytes 24 0)))
 
--- one point
-one-point : numberIs (decode 0 (made 1 (bytes 2 1 ++ (1 ∷ 0 ∷ 0 ∷ bytes 2 1 ++ point 0 0 0)))) ≡ 5
-unfolding ofBits le lt u32At u64At run raisedAt queryAt laneFits sectionFits fits every any risesFrom rises laneRange sectionRange inRange within recordNumber withRecord walk walked indexOf repeats twice lacks judged settled decode bytes made point straight link section place f32 driving printed numberIs
-one-point = refl
+-- 7: a lane that stands twice
+same-lane : List ℕ
+same-lane = straight 1 0 0x41000000 ++ straight 1 0 0x41000000
 
--- ends 2, its length taken as with tangents
-two-ends : numberIs (decode 0 (made 1 (bytes 2 1 ++ (1 ∷ 0 ∷ 2 ∷ bytes 2 2 ++ (bytes 24 0 ++ bytes 24 0))))) ≡ 5
-unfolding ofBits le lt u32At u64At run raisedAt queryAt laneFits sectionFits fits every any risesFrom rises laneRange sectionRange inRange within recordNumber withRecord walk walked indexOf repeats twice lacks judged settled decode bytes made point straight link section place f32 driving printed numberIs
-two-ends = refl
+-- 7: 7 comes before 8, wherever the records stand
+twice-before-missing : List ℕ
+twice-before-missing = link 9 0 1 ++ same-lane
 
--- a lane that stands twice
-same-lane : numberIs (decode 0 (straight 1 0 0x41000000 ++ straight 1 0 0x41000000)) ≡ 7
-unfolding ofBits le lt u32At u64At run raisedAt queryAt laneFits sectionFits fits every any risesFrom rises laneRange sectionRange inRange within recordNumber withRecord walk walked indexOf repeats twice lacks judged settled decode bytes made point straight link section place f32 driving printed numberIs
-same-lane = refl
+-- 8: a from-lane that is missing
+from-missing : List ℕ
+from-missing = straight 1 0 0x41000000 ++ link 2 0 1
 
--- 7 comes before 8, wherever the records stand
-twice-before-missing : numberIs (decode 0 (link 9 0 1 ++ (straight 1 0 0x41000000 ++ straight 1 0 0x41000000))) ≡ 7
-unfolding ofBits le lt u32At u64At run raisedAt queryAt laneFits sectionFits fits every any risesFrom rises laneRange sectionRange inRange within recordNumber withRecord walk walked indexOf repeats twice lacks judged settled decode bytes made point straight link section place f32 driving printed numberIs
-twice-before-missing = refl
+-- 0: a lane led to may be missing
+to-missing : List ℕ
+to-missing = straight 1 0 0x41000000 ++ link 1 0 2
 
--- a from-lane that is missing
-from-missing : numberIs (decode 0 (straight 1 0 0x41000000 ++ link 2 0 1)) ≡ 8
-unfolding ofBits le lt u32At u64At run raisedAt queryAt laneFits sectionFits fits every any risesFrom rises laneRange sectionRange inRange within recordNumber withRecord walk walked indexOf repeats twice lacks judged settled decode bytes made point straight link section place f32 driving printed numberIs
-from-missing = refl
+-- 0: a place may stand before its lane and section; here its number is -1
+placed : List ℕ
+placed = place 1 0 0 0xffffffff ++ (straight 1 0 0x41000000 ++ section 0 0)
 
--- a lane led to may be missing
-to-missing : numberIs (decode 0 (straight 1 0 0x41000000 ++ link 1 0 2)) ≡ 0
-unfolding ofBits le lt u32At u64At run raisedAt queryAt laneFits sectionFits fits every any risesFrom rises laneRange sectionRange inRange within recordNumber withRecord walk walked indexOf repeats twice lacks judged settled decode bytes made point straight link section place f32 driving printed numberIs
-to-missing = refl
+-- 8: a section that is missing
+no-section : List ℕ
+no-section = straight 1 0 0x41000000 ++ place 1 0 0 0
 
--- a place may stand before its lane and section; here its number is -1
-placed : numberIs (decode 0 (place 1 0 0 0xffffffff ++ (straight 1 0 0x41000000 ++ section 0 0))) ≡ 0
-unfolding ofBits le lt u32At u64At run raisedAt queryAt laneFits sectionFits fits every any risesFrom rises laneRange sectionRange inRange within recordNumber withRecord walk walked indexOf repeats twice lacks judged settled decode bytes made point straight link section place f32 driving printed numberIs
-placed = refl
-
--- a section that is missing
-no-section : numberIs (decode 0 (straight 1 0 0x41000000 ++ place 1 0 0 0)) ≡ 8
-unfolding ofBits le lt u32At u64At run raisedAt queryAt laneFits sectionFits fits every any risesFrom rises laneRange sectionRange inRange within recordNumber withRecord walk walked indexOf repeats twice lacks judged settled decode bytes made point straight link section place f32 driving printed numberIs
-no-section = refl
+-- the number of each, in this order
+cases :
+    map (λ (s : List ℕ). numberIs (decode 0 s))
+    (empty ∷ five-bytes ∷ past-the-end ∷ unknown-kind ∷ wrong-length ∷ edge ∷ above ∷ one-point
+    ∷ two-ends ∷ same-lane ∷ twice-before-missing ∷ from-missing ∷ to-missing ∷ placed ∷ no-section ∷ [])
+    ≡ 0 ∷ 3 ∷ 3 ∷ 4 ∷ 4 ∷ 0 ∷ 5 ∷ 5 ∷ 5 ∷ 7 ∷ 7 ∷ 8 ∷ 0 ∷ 0 ∷ 8 ∷ []
+unfolding
+    ofBits le lt u32At u64At run raisedAt queryAt laneFits sectionFits fits every any risesFrom rises laneRange sectionRange
+    inRange within recordNumber withRecord walk walked indexOf repeats twice lacks judged settled decode bytes made point
+    straight link section place f32 driving printed empty five-bytes past-the-end unknown-kind wrong-length edge above one-point
+    two-ends same-lane twice-before-missing from-missing to-missing placed no-section numberIs
+cases = refl
 
 -- a caller's side above 1 is tried after the records and before 7
-side-two : numberIs (decode 2 (straight 1 0 0x41000000 ++ straight 1 0 0x41000000)) ≡ 5
-unfolding ofBits le lt u32At u64At run raisedAt queryAt laneFits sectionFits fits every any risesFrom rises laneRange sectionRange inRange within recordNumber withRecord walk walked indexOf repeats twice lacks judged settled decode bytes made point straight link section place f32 driving printed numberIs
+side-two : numberIs (decode 2 same-lane) ≡ 5
+unfolding
+    ofBits le lt u32At u64At run raisedAt queryAt laneFits sectionFits fits every any risesFrom rises laneRange sectionRange
+    inRange within recordNumber withRecord walk walked indexOf repeats twice lacks judged settled decode bytes made point
+    straight link section place f32 driving printed empty five-bytes past-the-end unknown-kind wrong-length edge above one-point
+    two-ends same-lane twice-before-missing from-missing to-missing placed no-section numberIs
 side-two = refl
 
 -- a lane after so many lanes and points: 256 lanes and 4,096 points pass
 after : ℕ → ℕ → Counts
 after lanes points = record { lanes = lanes; points = points; links = 0; sections = 0; stations = 0; places = 0 }
 
-last-lane : recordNumber (straight 1 0 0) 0 (after 255 4094) ≡ 0
-unfolding ofBits le lt u32At u64At run raisedAt queryAt laneFits sectionFits fits every any risesFrom rises laneRange sectionRange inRange within recordNumber withRecord walk walked indexOf repeats twice lacks judged settled decode bytes made point straight link section place f32 driving printed after
-last-lane = refl
-
-too-many-lanes : recordNumber (straight 1 0 0) 0 (after 256 0) ≡ 6
-unfolding ofBits le lt u32At u64At run raisedAt queryAt laneFits sectionFits fits every any risesFrom rises laneRange sectionRange inRange within recordNumber withRecord walk walked indexOf repeats twice lacks judged settled decode bytes made point straight link section place f32 driving printed after
-too-many-lanes = refl
-
-too-many-points : recordNumber (straight 1 0 0) 0 (after 0 4095) ≡ 6
-unfolding ofBits le lt u32At u64At run raisedAt queryAt laneFits sectionFits fits every any risesFrom rises laneRange sectionRange inRange within recordNumber withRecord walk walked indexOf repeats twice lacks judged settled decode bytes made point straight link section place f32 driving printed after
-too-many-points = refl
+limits :
+    map (recordNumber (straight 1 0 0) 0) (after 255 4094 ∷ after 256 0 ∷ after 0 4095 ∷ []) ≡ 0 ∷ 6 ∷ 6 ∷ []
+unfolding
+    ofBits le lt u32At u64At run raisedAt queryAt laneFits sectionFits fits every any risesFrom rises laneRange sectionRange
+    inRange within recordNumber withRecord walk walked indexOf repeats twice lacks judged settled decode bytes made point
+    straight link section place f32 driving printed after
+limits = refl
 
 -- more than 65,536 bytes
 too-large : (side : ℕ) (s : List ℕ) → 65536 < length s → decode side s ≡ refused 2

@@ -65,4 +65,6 @@ module _ (A : Type 0) (old : List A) where
       let e : suc k + length vs ≡ k + suc (length vs) = omega arith in
       subst (λ (j : ℕ). Filling A old (sets (set out k v) (suc k) vs) j rest whole) e
       (fill-many vs (set out k v) (suc k) rest whole
-      (subst (λ (j : ℕ). Filling A old (set out k v) j (vs ++ rest) whole) (add-one k) (fill-one out k (vs ++ rest) whole v k F refl (omega arith))) (omega arith))
+      (subst (λ (j : ℕ). Filling A old (set out k v) j (vs ++ rest) whole) (add-one k)
+      (fill-one out k (vs ++ rest) whole v k F refl (omega arith)))
+      (omega arith))

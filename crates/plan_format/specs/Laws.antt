@@ -116,13 +116,15 @@ any-same test other [] h = refl
 any-same test other (x ∷ xs) h = rw (h x, any-same test other xs h)
 
 -- what holds of no element, or of every element, of each
-pub any-none : {A : Type 0} (test : A → Bool) (xs : List A) (d : A) → any test xs ≡ false → (i : ℕ) → i < length xs → test (getD xs i d) ≡ false
+pub any-none : {A : Type 0} (test : A → Bool) (xs : List A) (d : A) → any test xs ≡ false → (i : ℕ) → i < length xs
+    → test (getD xs i d) ≡ false
 unfolding any
 any-none test [] d e i h = absurd (not-suc-le-zero h)
 any-none test (x ∷ xs) d e zero h = or-fst (test x) (any test xs) e
 any-none test (x ∷ xs) d e (suc i) h = any-none test xs d (or-snd (test x) (any test xs) e) i (le-of-suc-le-suc h)
 
-pub every-each : {A : Type 0} (test : A → Bool) (xs : List A) (d : A) → every test xs ≡ true → (i : ℕ) → i < length xs → test (getD xs i d) ≡ true
+pub every-each : {A : Type 0} (test : A → Bool) (xs : List A) (d : A) → every test xs ≡ true → (i : ℕ) → i < length xs
+    → test (getD xs i d) ≡ true
 unfolding every
 every-each test [] d e i h = absurd (not-suc-le-zero h)
 every-each test (x ∷ xs) d e zero h = and-fst (test x) (every test xs) e

@@ -4,6 +4,7 @@ pub mod Plan
 pub mod Tables
 pub mod Reading
 pub mod Queries
+pub mod Decodes
 pub mod Laws
 pub mod Filling
 pub mod Lookup

@@ -64,7 +64,8 @@ index-own (x ∷ xs) i (suc k) d e h =
     rw (differs, z) (index-own xs (i + 1) k d (or-snd (holds x xs) (repeats xs) e) (le-of-suc-le-suc h))
 
 -- so a number is that of the i-th exactly when it is found there
-pub index-same : (xs : List ℕ) (n i : ℕ) → repeats xs ≡ false → i < length xs → length xs ≤ 256 → eqb n (getD xs i 0) ≡ eqb (indexOf n xs 0 256) i
+pub index-same : (xs : List ℕ) (n i : ℕ) → repeats xs ≡ false → i < length xs → length xs ≤ 256
+    → eqb n (getD xs i 0) ≡ eqb (indexOf n xs 0 256) i
 index-same xs n i e h l = go (eqb n (getD xs i 0)) (eqb (indexOf n xs 0 256) i) refl refl
   where
     go : (b c : Bool) → eqb n (getD xs i 0) ≡ b → eqb (indexOf n xs 0 256) i ≡ c → eqb n (getD xs i 0) ≡ eqb (indexOf n xs 0 256) i

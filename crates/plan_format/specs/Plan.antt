@@ -56,7 +56,8 @@ laneRange l = leb (l .type) 27 && (leb (l .direction) 2 && (leb (l .ends) 1 && (
 
 unfoldable pub sectionRange : Section → Bool
 sectionRange x =
-    station (x .start) && (station (x .end) && (le (x .start) (x .end) && (leb 2 (x .count) && (every station (x .stations) && rises (x .stations)))))
+    station (x .start) &&
+    (station (x .end) && (le (x .start) (x .end) && (leb 2 (x .count) && (every station (x .stations) && rises (x .stations)))))
 
 unfoldable pub inRange : List ℕ → ℕ → ℕ → Bool
 inRange s at kind =

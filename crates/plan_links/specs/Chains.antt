@@ -35,10 +35,12 @@ Chains n first nx ks j = (q : ℕ) → q < 768 → Chain n nx (getD first q 0) (
 keep : (n : ℕ) (nx : List ℕ) (j v q : ℕ) (ks : List ℕ) (i h : ℕ) → j < i → Chain n nx h (picks q ks i) → Chain n (set nx j v) h (picks q ks i)
 unfolding picks Chain
 keep n nx j v q [] i h l C = C
-keep n nx j v q (k ∷ ks) i h l C = go (eqb k q) (λ (g : ℕ) (D : Chain n nx g (picks q ks (i + 1))). keep n nx j v q ks (i + 1) g (omega arith) D) C
+keep n nx j v q (k ∷ ks) i h l C =
+    go (eqb k q) (λ (g : ℕ) (D : Chain n nx g (picks q ks (i + 1))). keep n nx j v q ks (i + 1) g (omega arith) D) C
   where
     go : (b : Bool) → ((g : ℕ) → Chain n nx g (picks q ks (i + 1)) → Chain n (set nx j v) g (picks q ks (i + 1)))
-        → Chain n nx h (cond b (i ∷ picks q ks (i + 1)) (picks q ks (i + 1))) → Chain n (set nx j v) h (cond b (i ∷ picks q ks (i + 1)) (picks q ks (i + 1)))
+        → Chain n nx h (cond b (i ∷ picks q ks (i + 1)) (picks q ks (i + 1)))
+        → Chain n (set nx j v) h (cond b (i ∷ picks q ks (i + 1)) (picks q ks (i + 1)))
     go true r D = (D .0, D .1, rw (getD-set-other nx j i v 0 (λ (y : i ≡ j). absurd (omega arith))) (r (getD nx i 0) (D .2)))
     go false r D = r h D
 
@@ -46,32 +48,41 @@ pub chains-none : (n : ℕ) (first nx : List ℕ) (j : ℕ) → ((q : ℕ) → g
 unfolding picks Chain
 chains-none n first nx j h q l = h q
 
-pub chains-step : (n : ℕ) (first nx ks : List ℕ) (j k : ℕ) → Chains n first nx ks (j + 1) → j < n → j < length nx → k < 768 → length first ≡ 768
+pub chains-step : (n : ℕ) (first nx ks : List ℕ) (j k : ℕ) → Chains n first nx ks (j + 1) → j < n → j < length nx → k < 768
+    → length first ≡ 768
     → Chains n (set first k (j + 1)) (set nx j (getD first k 0)) (k ∷ ks) j
 unfolding picks Chain
 chains-step n first nx ks j k C l m h e q b = go (eqb k q) refl
   where
-    go : (t : Bool) → eqb k q ≡ t → Chain n (set nx j (getD first k 0)) (getD (set first k (j + 1)) q 0) (cond (eqb k q) (j ∷ picks q ks (j + 1)) (picks q ks (j + 1)))
+    go : (t : Bool) → eqb k q ≡ t
+        → Chain n (set nx j (getD first k 0)) (getD (set first k (j + 1)) q 0)
+        (cond (eqb k q) (j ∷ picks q ks (j + 1)) (picks q ks (j + 1)))
     go true t =
         let same = eqb-true k q t in
-        let at : getD (set first k (j + 1)) q 0 ≡ j + 1 = ap (λ (z : ℕ). getD (set first k (j + 1)) z 0) (sym same) ∙ getD-set-same first k (j + 1) 0 (omega arith) in
-        let old : getD (set nx j (getD first k 0)) j 0 ≡ getD first q 0 = getD-set-same nx j (getD first k 0) 0 m ∙ ap (λ (z : ℕ). getD first z 0) same in
+        let at : getD (set first k (j + 1)) q 0 ≡ j + 1 =
+        ap (λ (z : ℕ). getD (set first k (j + 1)) z 0) (sym same) ∙ getD-set-same first k (j + 1) 0 (omega arith) in
+        let old : getD (set nx j (getD first k 0)) j 0 ≡ getD first q 0 =
+        getD-set-same nx j (getD first k 0) 0 m ∙ ap (λ (z : ℕ). getD first z 0) same in
         rw t (at, l, rw old (keep n nx j (getD first k 0) q ks (j + 1) (getD first q 0) (omega arith) (C q b)))
     go false t =
-        let at : getD (set first k (j + 1)) q 0 ≡ getD first q 0 = getD-set-other first k q (j + 1) 0 (λ (y : q ≡ k). eqb-false k q t (sym y)) in
+        let at : getD (set first k (j + 1)) q 0 ≡ getD first q 0 =
+        getD-set-other first k q (j + 1) 0 (λ (y : q ≡ k). eqb-false k q t (sym y)) in
         rw (t, at) (keep n nx j (getD first k 0) q ks (j + 1) (getD first q 0) (omega arith) (C q b))
 
-pub chains-start : (s m links first nx : List ℕ) (n : ℕ) → ((q : ℕ) → getD first q 0 ≡ 0) → Chains n first nx (map (linkKey s m) (drop (length links) links)) (length links)
+pub chains-start : (s m links first nx : List ℕ) (n : ℕ) → ((q : ℕ) → getD first q 0 ≡ 0)
+    → Chains n first nx (map (linkKey s m) (drop (length links) links)) (length links)
 chains-start s m links first nx n h = rw (map-none (linkKey s m) links (length links) (omega arith)) (chains-none n first nx (length links) h)
 
-pub chains-next : (s m links first nx : List ℕ) (j k : ℕ) → Chains (length links) first nx (map (linkKey s m) (drop j links)) j → 0 < j → j ≤ length links → length links ≤ length nx → length first ≡ 768
+pub chains-next : (s m links first nx : List ℕ) (j k : ℕ) → Chains (length links) first nx (map (linkKey s m) (drop j links)) j → 0 < j
+    → j ≤ length links → length links ≤ length nx → length first ≡ 768
     → k ≡ linkKey s m (getD links (j - 1) 0) → k < 768
     → Chains (length links) (set first k (j - 1 + 1)) (set nx (j - 1) (getD first k 0)) (map (linkKey s m) (drop (j - 1) links)) (j - 1)
 chains-next s m links first nx j k C h l w e q b =
     let z : j ≡ j - 1 + 1 = omega arith in
     let under : j - 1 < length links = omega arith in
     rw (map-next (linkKey s m) links (j - 1) under, ← q)
-    (chains-step (length links) first nx (map (linkKey s m) (drop (j - 1 + 1) links)) (j - 1) k (subst (λ (i : ℕ). Chains (length links) first nx (map (linkKey s m) (drop i links)) i) z C) under (omega arith) b e)
+    (chains-step (length links) first nx (map (linkKey s m) (drop (j - 1 + 1) links)) (j - 1) k
+    (subst (λ (i : ℕ). Chains (length links) first nx (map (linkKey s m) (drop i links)) i) z C) under (omega arith) b e)
 
 -- HOW MANY links the keys below q have: at most all
 unfoldable pub tally : ℕ → List ℕ → ℕ
@@ -83,7 +94,8 @@ unfolding picks
 pick-count q [] i j = refl
 pick-count q (k ∷ ks) i j = go (eqb k q) (pick-count q ks (i + 1) (j + 1))
   where
-    go : (b : Bool) → length (picks q ks (i + 1)) ≡ length (picks q ks (j + 1)) → length (cond b (i ∷ picks q ks (i + 1)) (picks q ks (i + 1))) ≡ length (cond b (j ∷ picks q ks (j + 1)) (picks q ks (j + 1)))
+    go : (b : Bool) → length (picks q ks (i + 1)) ≡ length (picks q ks (j + 1))
+        → length (cond b (i ∷ picks q ks (i + 1)) (picks q ks (i + 1))) ≡ length (cond b (j ∷ picks q ks (j + 1)) (picks q ks (j + 1)))
     go true r = ap suc r
     go false r = r
 
@@ -95,21 +107,24 @@ count-same : (q k : ℕ) (ks : List ℕ) → length (picks q (k ∷ ks) 0) ≤ l
 unfolding picks
 count-same q k ks = go (eqb k q) (pick-count q ks (0 + 1) 0)
   where
-    go : (b : Bool) → length (picks q ks (0 + 1)) ≡ length (picks q ks 0) → length (cond b (0 ∷ picks q ks (0 + 1)) (picks q ks (0 + 1))) ≤ length (picks q ks 0) + 1
+    go : (b : Bool) → length (picks q ks (0 + 1)) ≡ length (picks q ks 0)
+        → length (cond b (0 ∷ picks q ks (0 + 1)) (picks q ks (0 + 1))) ≤ length (picks q ks 0) + 1
     go true r = omega arith
     go false r = omega arith
 
 tally-above : (q k : ℕ) (ks : List ℕ) → q ≤ k → tally q (k ∷ ks) ≡ tally q ks
 unfolding tally
 tally-above zero k ks h = refl
-tally-above (suc q) k ks h = let r = tally-above q k ks (omega arith) in let c = count-other q k ks (λ (y : k ≡ q). absurd (omega arith)) in omega arith
+tally-above (suc q) k ks h =
+    let r = tally-above q k ks (omega arith) in let c = count-other q k ks (λ (y : k ≡ q). absurd (omega arith)) in omega arith
 
 tally-cons : (q k : ℕ) (ks : List ℕ) → tally q (k ∷ ks) ≤ tally q ks + 1
 unfolding tally
 tally-cons zero k ks = omega arith
 tally-cons (suc q) k ks = go (eqb k q) refl (tally-cons q k ks)
   where
-    go : (b : Bool) → eqb k q ≡ b → tally q (k ∷ ks) ≤ tally q ks + 1 → tally q (k ∷ ks) + length (picks q (k ∷ ks) 0) ≤ tally q ks + length (picks q ks 0) + 1
+    go : (b : Bool) → eqb k q ≡ b → tally q (k ∷ ks) ≤ tally q ks + 1
+        → tally q (k ∷ ks) + length (picks q (k ∷ ks) 0) ≤ tally q ks + length (picks q ks 0) + 1
     go true e r = let s = eqb-true k q e in let t = tally-above q k ks (omega arith) in let c = count-same q k ks in omega arith
     go false e r = let c = count-other q k ks (eqb-false k q e) in omega arith
 
@@ -122,13 +137,17 @@ pub tally-le : (q : ℕ) (ks : List ℕ) → tally q ks ≤ length ks
 tally-le q [] = let r = tally-none q in omega arith
 tally-le q (k ∷ ks) = let r = tally-le q ks in let c = tally-cons q k ks in omega arith
 
-pub tally-three : (i : ℕ) (ks : List ℕ) → tally (3 * (i + 1)) ks ≡ tally (3 * i) ks + length (picks (3 * i) ks 0) + length (picks (3 * i + 1) ks 0) + length (picks (3 * i + 2) ks 0)
+pub tally-three : (i : ℕ) (ks : List ℕ)
+    → tally (3 * (i + 1)) ks
+    ≡ tally (3 * i) ks + length (picks (3 * i) ks 0) + length (picks (3 * i + 1) ks 0) + length (picks (3 * i + 2) ks 0)
 unfolding tally
 tally-three i ks =
     let e : 3 * (i + 1) ≡ suc (suc (suc (3 * i))) = omega arith in
     let a : suc (3 * i) ≡ 3 * i + 1 = omega arith in
     let b : suc (suc (3 * i)) ≡ 3 * i + 2 = omega arith in
-    ap (λ (n : ℕ). tally n ks) e ∙ ap (λ (n : ℕ). tally (3 * i) ks + length (picks (3 * i) ks 0) + length (picks n ks 0) + length (picks (suc (suc (3 * i))) ks 0)) a
+    ap (λ (n : ℕ). tally n ks) e ∙ ap
+    (λ (n : ℕ). tally (3 * i) ks + length (picks (3 * i) ks 0) + length (picks n ks 0) + length (picks (suc (suc (3 * i))) ks 0))
+    a
     ∙ ap (λ (n : ℕ). tally (3 * i) ks + length (picks (3 * i) ks 0) + length (picks (3 * i + 1) ks 0) + length (picks n ks 0)) b
 
 -- ONE LANE AND ROLE: the links with the key q by their places among the links, and their rows
@@ -158,7 +177,8 @@ pub record Writing (s m links nx : List ℕ) (start : ℕ) (all old out : List �
   pub rest : List ℕ
   pub chain : Chain (length links) nx h rest
   pub count : n + length rest ≡ length all
-  pub same : sets out (2 * (start + n)) (rows (rowBy s m) (map (startAt links) rest)) ≡ sets old (2 * start) (rows (rowBy s m) (map (startAt links) all))
+  pub same : sets out (2 * (start + n)) (rows (rowBy s m) (map (startAt links) rest))
+      ≡ sets old (2 * start) (rows (rowBy s m) (map (startAt links) all))
   pub size : length out ≡ length old
 
 module _ (s m links nx : List ℕ) (start : ℕ) (all old : List ℕ) where
@@ -174,7 +194,10 @@ module _ (s m links nx : List ℕ) (start : ℕ) (all old : List ℕ) where
     pub write-in : 0 < h → (h - 1 < length links) × (n < length all)
     write-in = in-by (P .rest) (P .chain) (P .count)
 
-    next-by : (l : List ℕ) → Chain (length links) nx h l → n + length l ≡ length all → sets out (2 * (start + n)) (rows (rowBy s m) (map (startAt links) l)) ≡ sets old (2 * start) (rows (rowBy s m) (map (startAt links) all)) → 0 < h
+    next-by : (l : List ℕ) → Chain (length links) nx h l → n + length l ≡ length all
+        → sets out (2 * (start + n)) (rows (rowBy s m) (map (startAt links) l))
+        ≡ sets old (2 * start) (rows (rowBy s m) (map (startAt links) all))
+        → 0 < h
         → (t v : ℕ) (next : List ℕ) → t ≡ u16At s (getD links (h - 1) 0 + 9) → v ≡ getD m t 0 → next ≡ sets out (2 * (start + n)) (t ∷ v ∷ [])
         → Writing s m links nx start all old next (getD nx (h - 1) 0) (n + 1)
     unfolding Chain rows
@@ -192,11 +215,15 @@ module _ (s m links nx : List ℕ) (start : ℕ) (all old : List ℕ) where
           size = ap length en ∙ length-sets out (2 * (start + n)) (t ∷ v ∷ []) ∙ P .size;
         }
 
-    pub write-next : 0 < h → (t v : ℕ) (next : List ℕ) → t ≡ u16At s (getD links (h - 1) 0 + 9) → v ≡ getD m t 0 → next ≡ sets out (2 * (start + n)) (t ∷ v ∷ [])
+    pub write-next : 0 < h → (t v : ℕ) (next : List ℕ) → t ≡ u16At s (getD links (h - 1) 0 + 9) → v ≡ getD m t 0
+        → next ≡ sets out (2 * (start + n)) (t ∷ v ∷ [])
         → Writing s m links nx start all old next (getD nx (h - 1) 0) (n + 1)
     write-next = next-by (P .rest) (P .chain) (P .count) (P .same)
 
-    end-by : (l : List ℕ) → Chain (length links) nx h l → n + length l ≡ length all → sets out (2 * (start + n)) (rows (rowBy s m) (map (startAt links) l)) ≡ sets old (2 * start) (rows (rowBy s m) (map (startAt links) all)) → h ≤ 0
+    end-by : (l : List ℕ) → Chain (length links) nx h l → n + length l ≡ length all
+        → sets out (2 * (start + n)) (rows (rowBy s m) (map (startAt links) l))
+        ≡ sets old (2 * start) (rows (rowBy s m) (map (startAt links) all))
+        → h ≤ 0
         → (n ≡ length all) × (out ≡ sets old (2 * start) (rows (rowBy s m) (map (startAt links) all)))
     unfolding Chain rows
     end-by [] C e q p = (omega arith, q)

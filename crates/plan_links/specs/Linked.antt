@@ -70,7 +70,8 @@ key-test a b i r hb hr = go (eqb (3 * a + b) (3 * i + r)) refl
         no true false p q = refl
         no false v p q = refl
 
-module _ (s m ns : List ℕ) (B : Bytes s) (M : ByNumber m ns 0) (once : repeats ns ≡ false) (few : length ns ≤ 256) (i r : ℕ) (hi : i < length ns) (hr : r ≤ 2) where
+module _ (s m ns : List ℕ) (B : Bytes s) (M : ByNumber m ns 0) (once : repeats ns ≡ false) (few : length ns ≤ 256) (i r : ℕ)
+    (hi : i < length ns) (hr : r ≤ 2) where
   abbrev n : ℕ
   n = getD ns i 0
 
@@ -122,7 +123,8 @@ module _ (s m ls : List ℕ) (B : Bytes s) (links : List ℕ) (E : Each (Roled s
   abbrev xs : List Link
   xs = map (linkAt s) links
 
-  head-is : (i : ℕ) (p : ℕ) (more : List ℕ) → drop i ns ≡ map (keyAt s 0) (p ∷ more) → (i < length ns) × (keyAt s 0 p ≡ getD ns i 0) × (drop (i + 1) ns ≡ map (keyAt s 0) more)
+  head-is : (i : ℕ) (p : ℕ) (more : List ℕ) → drop i ns ≡ map (keyAt s 0) (p ∷ more)
+      → (i < length ns) × (keyAt s 0 p ≡ getD ns i 0) × (drop (i + 1) ns ≡ map (keyAt s 0) more)
   head-is i p more e =
       let l = ap length e in
       let long = length-drop i ns in
@@ -136,7 +138,8 @@ module _ (s m ls : List ℕ) (B : Bytes s) (links : List ℕ) (E : Each (Roled s
   size-is : (i r : ℕ) → i < length ns → r ≤ 2 → length (linked xs (getD ns i 0) r) ≡ length (linksOf s m links (3 * i + r))
   size-is i r hi hr = count-is s m ns B M once few i r hi hr links E
 
-  groups-is : (i : ℕ) (rest : List ℕ) → drop i ns ≡ map (keyAt s 0) rest → rows (group ns xs) (map (keyAt s 0) rest) ≡ groupsIn s m links i rest
+  groups-is : (i : ℕ) (rest : List ℕ) → drop i ns ≡ map (keyAt s 0) rest
+      → rows (group ns xs) (map (keyAt s 0) rest) ≡ groupsIn s m links i rest
   unfolding rows groupsIn
   groups-is i [] e = refl
   groups-is i (p ∷ rest) e =

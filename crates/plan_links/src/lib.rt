@@ -20,8 +20,15 @@ use plan_whole::lane_row;
 
 // For each lane and role 1 + the first link, and for each link 1 + the next of its lane and role; 0 for none.
 fn chain_links(file: &[u8], links: &[usize], index: &[u16], first: &mut [usize], next: &mut [usize])
-    requires { ⌜ Each (Room 11 (now file)) (now links) × (length (now links) ≤ 2048) × Each (Keyed (now file) (now index)) (now links) × (length (now index) ≡ 65536) × (length (now first) ≡ 768) × (length (now next) ≡ 2048) × ((q : ℕ) → getD (now first) q 0 ≡ 0) ⌝ }
-    ensures { λ _. ⌜ Chains (length (now (links .entry))) (now (first .exit)) (now (next .exit)) (map (linkKey (now (file .entry)) (now (index .entry))) (now (links .entry))) 0 ⌝ }
+    requires { ⌜ Each (Room 11 (now file)) (now links)
+        × (length (now links) ≤ 2048)
+        × Each (Keyed (now file) (now index)) (now links)
+        × (length (now index) ≡ 65536)
+        × (length (now first) ≡ 768)
+        × (length (now next) ≡ 2048)
+        × ((q : ℕ) → getD (now first) q 0 ≡ 0) ⌝ }
+    ensures { λ _. ⌜ Chains (length (now (links .entry))) (now (first .exit)) (now (next .exit))
+        (map (linkKey (now (file .entry)) (now (index .entry))) (now (links .entry))) 0 ⌝ }
 {
     let mut j = links.len();
     while 0 < j {
@@ -44,8 +51,14 @@ fn write_links(
     out: &mut [usize],
     start: usize,
 ) -> usize
-    requires { ⌜ Chained (now file) (now index) (now links) (now first) (now next) × (q < 768) × (start + length (linksOf (now file) (now index) (now links) q) ≤ 2048) × (4096 ≤ length (now out)) ⌝ }
-    ensures { λ r. ⌜ (r ≡ length (linksOf (now (file .entry)) (now (index .entry)) (now (links .entry)) q)) × (now (out .exit) ≡ sets (now (out .entry)) (2 * start) (rowsOf (now (file .entry)) (now (index .entry)) (now (links .entry)) q)) ⌝ }
+    requires { ⌜ Chained (now file) (now index) (now links) (now first) (now next)
+        × (q < 768)
+        × (start + length (linksOf (now file) (now index) (now links) q) ≤ 2048)
+        × (4096 ≤ length (now out)) ⌝ }
+    ensures { λ r. ⌜ (r ≡ length (linksOf (now (file .entry)) (now (index .entry)) (now (links .entry)) q))
+        ×
+        (now (out .exit) ≡ sets (now (out .entry)) (2 * start)
+        (rowsOf (now (file .entry)) (now (index .entry)) (now (links .entry)) q)) ⌝ }
 {
     let mut h = first[q];
     let mut n = 0;
@@ -72,8 +85,17 @@ fn group_links(
     out: &mut [usize],
     fans: &mut [usize],
 )
-    requires { ⌜ Listed (now file) (now lanes) 256 × (length (now placed) ≡ 65536) × Chained (now file) (now index) (now links) (now first) (now next) × (4096 ≤ length (now out)) × (1280 ≤ length (now fans)) ⌝ }
-    ensures { λ _. ⌜ (now (out .exit) ≡ over (groupsIn (now (file .entry)) (now (index .entry)) (now (links .entry)) 0 (now (lanes .entry))) (now (out .entry))) × (now (fans .exit) ≡ over (fansIn (now (file .entry)) (now (index .entry)) (now (links .entry)) (now (placed .entry)) 0 (now (lanes .entry)) 0) (now (fans .entry))) ⌝ }
+    requires { ⌜ Listed (now file) (now lanes) 256
+        × (length (now placed) ≡ 65536)
+        × Chained (now file) (now index) (now links) (now first) (now next)
+        × (4096 ≤ length (now out))
+        × (1280 ≤ length (now fans)) ⌝ }
+    ensures { λ _. ⌜ (now (out .exit) ≡ over (groupsIn (now (file .entry)) (now (index .entry)) (now (links .entry)) 0 (now (lanes .entry)))
+        (now (out .entry)))
+        ×
+        (now (fans .exit) ≡ over
+        (fansIn (now (file .entry)) (now (index .entry)) (now (links .entry)) (now (placed .entry)) 0 (now (lanes .entry)) 0)
+        (now (fans .entry))) ⌝ }
 {
     let mut i = 0;
     let mut k = 0;
@@ -99,8 +121,19 @@ pub fn load_links(
     links: &mut [usize],
     fans: &mut [usize],
 )
-    requires { ⌜ Linkable (now file) (now ls) (now ks) (now ps) (now index) × (4096 ≤ length (now links)) × (1280 ≤ length (now fans)) ⌝ }
-    ensures { λ _. ⌜ (now (links .exit) ≡ over (rows (group (map (keyAt (now (file .entry)) 0) (now (ls .entry))) (map (linkAt (now (file .entry))) (now (ks .entry)))) (map (keyAt (now (file .entry)) 0) (now (ls .entry)))) (now (links .entry))) × (now (fans .exit) ≡ over (rowsFrom (fanRow (map (linkAt (now (file .entry))) (now (ks .entry))) (map (keyAt (now (file .entry)) 0) (now (ps .entry)))) (linkCount (map (linkAt (now (file .entry))) (now (ks .entry)))) 0 (map (keyAt (now (file .entry)) 0) (now (ls .entry)))) (now (fans .entry))) ⌝ }
+    requires { ⌜ Linkable (now file) (now ls) (now ks) (now ps) (now index)
+        × (4096 ≤ length (now links))
+        × (1280 ≤ length (now fans)) ⌝ }
+    ensures { λ _. ⌜ (now (links .exit) ≡ over
+        (rows (group (map (keyAt (now (file .entry)) 0) (now (ls .entry))) (map (linkAt (now (file .entry))) (now (ks .entry))))
+        (map (keyAt (now (file .entry)) 0) (now (ls .entry))))
+        (now (links .entry)))
+        ×
+        (now (fans .exit) ≡ over
+        (rowsFrom
+        (fanRow (map (linkAt (now (file .entry))) (now (ks .entry))) (map (keyAt (now (file .entry)) 0) (now (ps .entry))))
+        (linkCount (map (linkAt (now (file .entry))) (now (ks .entry)))) 0 (map (keyAt (now (file .entry)) 0) (now (ls .entry))))
+        (now (fans .entry))) ⌝ }
 {
     let mut first = [0usize; 768];
     let mut next = [0usize; 2048];

@@ -76,7 +76,8 @@ pub end-room : (s : List ℕ) (at b n : ℕ) → b ≡ u8At s (at + 10) → (b �
 end-room s at b n e z q h = let g = simp (ne-eqb (u8At s (at + 10)) 0 (λ (y : u8At s (at + 10) ≡ 0). z (e ∙ y))) at h in omega arith
 
 -- zeros that are written one by one
-pub zeros-next : (out : List Float) (k left : ℕ) (z : Float) → 0 < left → sets (set out k z) (k + 1) (replicate (left - 1) z) ≡ sets out k (replicate left z)
+pub zeros-next : (out : List Float) (k left : ℕ) (z : Float) → 0 < left
+    → sets (set out k z) (k + 1) (replicate (left - 1) z) ≡ sets out k (replicate left z)
 zeros-next out k zero z h = absurd (omega arith)
 zeros-next out k (suc n) z h = let e : suc n - 1 ≡ n = omega arith in rw (e, add-one)
 
@@ -98,7 +99,8 @@ bounds-are s at = let e : at + 10 + 8 ≡ at + 18 = omega arith in rw e refl
 
 -- the row of a place, by what the code finds
 pub place-is : (s ls ss m keys : List ℕ) (at l j r : ℕ) → Searched s ls ss keys m
-    → (l ≡ getD m (u16At s (at + 6)) 0) × (u16At s (at + 6) < 65536) → j ≡ indexOf (pairAt s (at + 8)) (take (length ss) keys) 0 64 → r ≡ raisedAt s (at + 12)
+    → (l ≡ getD m (u16At s (at + 6)) 0) × (u16At s (at + 6) < 65536) → j ≡ indexOf (pairAt s (at + 8)) (take (length ss) keys) 0 64
+    → r ≡ raisedAt s (at + 12)
     → (l ∷ j ∷ r ∷ []) ≡ placeRow (planOf s (listed ls [] ss [])) (placeAt s at)
 place-is s ls ss m keys at l j r K el ej er =
     let e : at + 8 + 2 ≡ at + 10 = omega arith in

@@ -9,7 +9,8 @@ ghost use lib.Seq.{sets};
 ghost use Rattle.plan_format.specs.Laws.{Each, Room};
 ghost use Rattle.plan_format.specs.Plan.{planOf, laneCount, sectionCount};
 ghost use Rattle.plan_format.specs.Records.{floats, doubles, laneAt, sectionAt, placeAt};
-ghost use Rattle.plan_format.specs.Tables.{over, rows, rowsFrom, laneRow, pointRow, endRow, sectionRow, boundRow, stationRow, placeRow};
+ghost use Rattle.plan_format.specs.Tables.{over, rows, rowsFrom, laneRow, pointRow, endRow, sectionRow, boundRow, stationRow};
+ghost use Rattle.plan_format.specs.Tables.{placeRow};
 ghost use Rattle.plan_scan.specs.Parts.{Pointed, Ended, Stationed, listed};
 ghost use Rattle.plan_scan.specs.Scan.{total};
 ghost use Rattle.plan_whole.specs.Keys.{Listed};
@@ -69,7 +70,8 @@ fn copy_doubles(file: &[u8], first: usize, n: usize, out: &mut [f64], start: usi
 
 pub fn load_lanes(file: &[u8], lanes: &[usize], out: &mut [usize])
     requires { ⌜ Listed (now file) (now lanes) 256 × (1536 ≤ length (now out)) ⌝ }
-    ensures { λ _. ⌜ now (out .exit) ≡ over (rowsFrom laneRow laneCount 0 (map (laneAt (now (file .entry))) (now (lanes .entry)))) (now (out .entry)) ⌝ }
+    ensures { λ _. ⌜ now (out .exit) ≡ over (rowsFrom laneRow laneCount 0 (map (laneAt (now (file .entry))) (now (lanes .entry))))
+        (now (out .entry)) ⌝ }
 {
     let mut i = 0;
     let mut k = 0;
@@ -93,7 +95,10 @@ pub fn load_lanes(file: &[u8], lanes: &[usize], out: &mut [usize])
 }
 
 pub fn load_points(file: &[u8], lanes: &[usize], out: &mut [f32])
-    requires { ⌜ Listed (now file) (now lanes) 256 × Each (Pointed (now file)) (now lanes) × (total (now file) 11 (now lanes) ≤ 4096) × (12288 ≤ length (now out)) ⌝ }
+    requires { ⌜ Listed (now file) (now lanes) 256
+        × Each (Pointed (now file)) (now lanes)
+        × (total (now file) 11 (now lanes) ≤ 4096)
+        × (12288 ≤ length (now out)) ⌝ }
     ensures { λ _. ⌜ now (out .exit) ≡ over (rows pointRow (map (laneAt (now (file .entry))) (now (lanes .entry)))) (now (out .entry)) ⌝ }
 {
     let mut i = 0;
@@ -148,7 +153,8 @@ pub fn load_ends(file: &[u8], lanes: &[usize], out: &mut [f32])
 
 pub fn load_sections(file: &[u8], sections: &[usize], out: &mut [usize])
     requires { ⌜ Each (Room 28 (now file)) (now sections) × (length (now sections) ≤ 64) × (256 ≤ length (now out)) ⌝ }
-    ensures { λ _. ⌜ now (out .exit) ≡ over (rowsFrom sectionRow sectionCount 0 (map (sectionAt (now (file .entry))) (now (sections .entry)))) (now (out .entry)) ⌝ }
+    ensures { λ _. ⌜ now (out .exit) ≡ over
+        (rowsFrom sectionRow sectionCount 0 (map (sectionAt (now (file .entry))) (now (sections .entry)))) (now (out .entry)) ⌝ }
 {
     let mut i = 0;
     let mut k = 0;
@@ -178,8 +184,12 @@ pub fn load_bounds(file: &[u8], sections: &[usize], out: &mut [f64])
 }
 
 pub fn load_stations(file: &[u8], sections: &[usize], out: &mut [f64])
-    requires { ⌜ Each (Room 28 (now file)) (now sections) × Each (Stationed (now file)) (now sections) × (total (now file) 26 (now sections) ≤ 4096) × (4096 ≤ length (now out)) ⌝ }
-    ensures { λ _. ⌜ now (out .exit) ≡ over (rows stationRow (map (sectionAt (now (file .entry))) (now (sections .entry)))) (now (out .entry)) ⌝ }
+    requires { ⌜ Each (Room 28 (now file)) (now sections)
+        × Each (Stationed (now file)) (now sections)
+        × (total (now file) 26 (now sections) ≤ 4096)
+        × (4096 ≤ length (now out)) ⌝ }
+    ensures { λ _. ⌜ now (out .exit) ≡ over (rows stationRow (map (sectionAt (now (file .entry))) (now (sections .entry))))
+        (now (out .entry)) ⌝ }
 {
     let mut i = 0;
     let mut k = 0;
@@ -202,8 +212,13 @@ fn load_places_by(
     index: &[u16],
     out: &mut [usize],
 )
-    requires { ⌜ Listed (now file) (now places) 256 × Searched (now file) (now lanes) (now sections) (now keys) (now index) × (768 ≤ length (now out)) ⌝ }
-    ensures { λ _. ⌜ now (out .exit) ≡ over (rows (placeRow (planOf (now (file .entry)) (listed (now (lanes .entry)) [] (now (sections .entry)) []))) (map (placeAt (now (file .entry))) (now (places .entry)))) (now (out .entry)) ⌝ }
+    requires { ⌜ Listed (now file) (now places) 256
+        × Searched (now file) (now lanes) (now sections) (now keys) (now index)
+        × (768 ≤ length (now out)) ⌝ }
+    ensures { λ _. ⌜ now (out .exit) ≡ over
+        (rows (placeRow (planOf (now (file .entry)) (listed (now (lanes .entry)) [] (now (sections .entry)) [])))
+        (map (placeAt (now (file .entry))) (now (places .entry))))
+        (now (out .entry)) ⌝ }
 {
     let mut i = 0;
     let mut k = 0;
@@ -226,8 +241,13 @@ pub fn load_places(
     index: &[u16],
     out: &mut [usize],
 )
-    requires { ⌜ Listed (now file) (now places) 256 × Searching (now file) (now lanes) (now sections) (now index) × (768 ≤ length (now out)) ⌝ }
-    ensures { λ _. ⌜ now (out .exit) ≡ over (rows (placeRow (planOf (now (file .entry)) (listed (now (lanes .entry)) [] (now (sections .entry)) []))) (map (placeAt (now (file .entry))) (now (places .entry)))) (now (out .entry)) ⌝ }
+    requires { ⌜ Listed (now file) (now places) 256
+        × Searching (now file) (now lanes) (now sections) (now index)
+        × (768 ≤ length (now out)) ⌝ }
+    ensures { λ _. ⌜ now (out .exit) ≡ over
+        (rows (placeRow (planOf (now (file .entry)) (listed (now (lanes .entry)) [] (now (sections .entry)) [])))
+        (map (placeAt (now (file .entry))) (now (places .entry))))
+        (now (out .entry)) ⌝ }
 {
     let mut keys = [0usize; 64];
     collect_keys(file, sections, 1, &mut keys);

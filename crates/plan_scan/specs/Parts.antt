@@ -51,7 +51,8 @@ module _ (s : List ℕ) (at : ℕ) where
   lane-count e =
       let l = laneAt s at in
       leb-true 2 (l .count)
-      (and-fst _ (every coordinate (l .points)) (and-snd (leb (l .ends) 1) _ (and-snd (leb (l .direction) 2) _ (and-snd (leb (l .type) 27) _ e))))
+      (and-fst _ (every coordinate (l .points))
+      (and-snd (leb (l .ends) 1) _ (and-snd (leb (l .direction) 2) _ (and-snd (leb (l .type) 27) _ e))))
 
   link-role : inRange s at 2 ≡ true → u8At s (at + 8) ≤ 2
   unfolding inRange

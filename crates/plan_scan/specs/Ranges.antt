@@ -21,7 +21,8 @@ module _ (test : Float → Bool) (read : List ℕ → ℕ → Float) (width : �
   every-bad zero h e = absurd (omega arith)
   every-bad (suc n) h e = and-left _ (every test (run read width s (at + width) n)) e
 
-  pub every-good : (n : ℕ) → 0 < n → test (read s at) ≡ true → every test (run read width s (at + width) (n - 1)) ≡ every test (run read width s at n)
+  pub every-good : (n : ℕ) → 0 < n → test (read s at) ≡ true
+      → every test (run read width s (at + width) (n - 1)) ≡ every test (run read width s at n)
   unfolding every run
   every-good zero h e = absurd (omega arith)
   every-good (suc n) h e = let z : suc n - 1 ≡ n = omega arith in rw (z, e)

@@ -11,7 +11,8 @@ use lib.Seq.{drop-set-add, drop-set-lt, take-set-le, take-suc-set}
 use borrow.Author.Tests.{eq-eqb, eqb-true, le-ltb, leb-true, lt-ltb, ltb-false, ne-eqb}
 use Rattle.fields.specs.Fields.{u16At, u32At}
 use Rattle.plan_format.specs.Laws.{Each, and-fst, and-snd, each-snoc, length-snoc}
-use Rattle.plan_format.specs.Plan.{Starts, Walked, countsOf, ended, fits, inRange, itemsAt, none, recordNumber, refused, stopped, walk, walked, withQuery, withRecord, within}
+use Rattle.plan_format.specs.Plan.{Starts, Walked, countsOf, ended, fits, inRange, itemsAt, none, recordNumber, refused, stopped}
+use Rattle.plan_format.specs.Plan.{walk, walked, withQuery, withRecord, within}
 use Rattle.plan_format.specs.Reading.{readOf}
 use Rattle.plan_format.specs.declared.Counts.{Counts}
 use Rattle.plan_format.specs.declared.Read.{Read}
@@ -362,7 +363,8 @@ walk-end k s at a = refl
 walk-step : (k : ℕ) (s : List ℕ) (at : ℕ) (a : Starts)
     → walk (suc k) true s at a
     ≡ cond (eqb (recordNumber s at (countsOf a)) 0)
-    (walk k (ltb (at + 6 + u32At s at) (length s)) s (at + 6 + u32At s at) (withRecord at (u16At s (at + 4)) (itemsAt s at (u16At s (at + 4))) a))
+    (walk k (ltb (at + 6 + u32At s at) (length s)) s (at + 6 + u32At s at)
+    (withRecord at (u16At s (at + 4)) (itemsAt s at (u16At s (at + 4))) a))
     (stopped (recordNumber s at (countsOf a)))
 unfolding walk
 walk-step k s at a = refl
@@ -372,14 +374,16 @@ module _ (s : List ℕ) (at : ℕ) (c : Counts) (h : List ℕ) (S : Scanning s a
       → walk k (ltb at (length s)) s at (S .starts) ≡ walked s → walked s ≡ stopped v
   stop-by zero l e v q z p = absurd (omega arith)
   stop-by (suc k) l e v q z p =
-      let n : eqb (recordNumber s at (countsOf (S .starts))) 0 ≡ false = ne-eqb _ _ (λ (y : recordNumber s at (countsOf (S .starts)) ≡ 0). z (q ∙ y)) in
+      let n : eqb (recordNumber s at (countsOf (S .starts))) 0 ≡ false =
+      ne-eqb _ _ (λ (y : recordNumber s at (countsOf (S .starts)) ≡ 0). z (q ∙ y)) in
       sym (simp (lt-ltb at (length s) l, walk-step, n) at p) ∙ ap stopped (sym q)
 
   -- the record at `at` gets a number
   pub scan-stop : at < length s → (v : ℕ) → v ≡ recordNumber s at c → (v ≡ 0 → ⊥) → (r : Read) → r ≡ readOf (refused v)
       → (h′ : List ℕ) → Scanned s (walked s) r h′
   scan-stop l v q z r e h′ =
-      subst (λ (w : Walked). Scanned s w r h′) (sym (stop-by (S .fuel) l (S .enough) v (q ∙ ap (recordNumber s at) (S .counts)) z (S .same))) (e, z)
+      subst (λ (w : Walked). Scanned s w r h′)
+      (sym (stop-by (S .fuel) l (S .enough) v (q ∙ ap (recordNumber s at) (S .counts)) z (S .same))) (e, z)
 
   end-by : (k : ℕ) → length s ≤ at → walk k (ltb at (length s)) s at (S .starts) ≡ walked s → walked s ≡ ended (S .starts)
   end-by zero l p = sym (simp walk-zero at p)
@@ -403,7 +407,8 @@ module _ (s : List ℕ) (at : ℕ) (c : Counts) (h : List ℕ) (S : Scanning s a
 
   -- the record at `at` gets no number
   scan-next : at < length s → recordNumber s at c ≡ 0
-      → Scanning s (at + 6 + u32At s at) (more (u16At s (at + 4)) (itemsAt s at (u16At s (at + 4))) c) (set h (slotOf (u16At s (at + 4)) c) at)
+      → Scanning s (at + 6 + u32At s at) (more (u16At s (at + 4)) (itemsAt s at (u16At s (at + 4))) c)
+      (set h (slotOf (u16At s (at + 4)) c) at)
   scan-next l v =
       let kind = u16At s (at + 4) in
       let v′ : recordNumber s at (countsOf (S .starts)) ≡ 0 = subst (λ (d : Counts). recordNumber s at d ≡ 0) (S .counts) v in

@@ -37,7 +37,8 @@ lt-of-ne n i d k = go (ltb n i) refl
     go true e = ltb-true n i e
     go false e = let l = ltb-false n i e in absurd (d (omega arith))
 
-pub clear-one : (m : List ℕ) (i : ℕ) → i < length m → ((n : ℕ) → n < i → getD m n 0 ≡ 256) → (n : ℕ) → n < i + 1 → getD (set m i 256) n 0 ≡ 256
+pub clear-one : (m : List ℕ) (i : ℕ) → i < length m → ((n : ℕ) → n < i → getD m n 0 ≡ 256) → (n : ℕ) → n < i + 1
+    → getD (set m i 256) n 0 ≡ 256
 clear-one m i l h n k = go (eqb n i) refl
   where
     go : (b : Bool) → eqb n i ≡ b → getD (set m i 256) n 0 ≡ 256
@@ -53,10 +54,13 @@ numbers-none m i S = record { size = S .size; at = S .at }
 pub numbers-first : (s lanes m : List ℕ) → ByNumber m [] 0 → ByNumber m (map (keyAt s 0) (drop (length lanes) lanes)) (length lanes)
 numbers-first s lanes m S = rw (map-none (keyAt s 0) lanes (length lanes) (omega arith)) (numbers-none m (length lanes) S)
 
-pub numbers-next : (s lanes m : List ℕ) (i n : ℕ) → ByNumber m (map (keyAt s 0) (drop i lanes)) i → 0 < i → i ≤ length lanes → n ≡ u16At s (getD lanes (i - 1) 0 + 6) → n < 65536
+pub numbers-next : (s lanes m : List ℕ) (i n : ℕ) → ByNumber m (map (keyAt s 0) (drop i lanes)) i → 0 < i → i ≤ length lanes
+    → n ≡ u16At s (getD lanes (i - 1) 0 + 6) → n < 65536
     → ByNumber (set m n (i - 1)) (map (keyAt s 0) (drop (i - 1) lanes)) (i - 1)
 unfolding keyAt
 numbers-next s lanes m i n S h l e b =
     let k : i ≡ i - 1 + 1 = omega arith in
     let under : i - 1 < length lanes = omega arith in
-    rw (map-next (keyAt s 0) lanes (i - 1) under, ← e) (number-one m (map (keyAt s 0) (drop (i - 1 + 1) lanes)) n (i - 1) (subst (λ (j : ℕ). ByNumber m (map (keyAt s 0) (drop j lanes)) j) k S) b)
+    rw (map-next (keyAt s 0) lanes (i - 1) under, ← e)
+    (number-one m (map (keyAt s 0) (drop (i - 1 + 1) lanes)) n (i - 1)
+    (subst (λ (j : ℕ). ByNumber m (map (keyAt s 0) (drop j lanes)) j) k S) b)

@@ -19,7 +19,9 @@ abbrev pub pairAt : List ℕ → ℕ → ℕ
 pairAt s at = u16At s at * 65536 + u16At s (at + 2)
 
 unfoldable pub keyAt : List ℕ → ℕ → ℕ → ℕ
-keyAt s which at = cond (eqb which 0) (u16At s (at + 6)) (cond (eqb which 1) (pairAt s (at + 6)) (pairAt s (at + 8) * 4294967296 + raisedAt s (at + 12)))
+keyAt s which at =
+    cond (eqb which 0) (u16At s (at + 6))
+    (cond (eqb which 1) (pairAt s (at + 6)) (pairAt s (at + 8) * 4294967296 + raisedAt s (at + 12)))
 
 -- a part whose records have keys, and at most n
 pub record Listed (s part : List ℕ) (n : ℕ) : Type 0 where
@@ -59,7 +61,8 @@ pub repeats-here : (ks : List ℕ) (i : ℕ) → i < length ks → holds (getD k
 unfolding repeats
 repeats-here ks i h e = rw (drop-next ks i 0 h, e)
 
-pub repeats-later : (ks : List ℕ) (i : ℕ) → i < length ks → holds (getD ks i 0) (drop (i + 1) ks) ≡ false → repeats (drop (i + 1) ks) ≡ repeats (drop i ks)
+pub repeats-later : (ks : List ℕ) (i : ℕ) → i < length ks → holds (getD ks i 0) (drop (i + 1) ks) ≡ false
+    → repeats (drop (i + 1) ks) ≡ repeats (drop i ks)
 unfolding repeats
 repeats-later ks i h e = rw (drop-next ks i 0 h, e)
 
@@ -87,7 +90,9 @@ module _ (s : List ℕ) where
 
 -- number 7, as the code reads it
 unfoldable pub twiceIn : List ℕ → List ℕ → List ℕ → List ℕ → Bool
-twiceIn s ls ss ps = repeats (map (keyAt s 0) ls) || (repeats (map (keyAt s 1) ss) || (repeats (map (keyAt s 0) ps) || repeats (map (keyAt s 2) ps)))
+twiceIn s ls ss ps =
+    repeats (map (keyAt s 0) ls) ||
+    (repeats (map (keyAt s 1) ss) || (repeats (map (keyAt s 0) ps) || repeats (map (keyAt s 2) ps)))
 
 pub twice-is : (s : List ℕ) (a : Starts) → twice (planOf s a) ≡ twiceIn s (a .lanes) (a .sections) (a .places)
 unfolding twice twiceIn

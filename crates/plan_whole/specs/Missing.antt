@@ -54,7 +54,8 @@ module _ (k : ℕ) (keys : List ℕ) (i d : ℕ) where
   index-end h = rw (drop-none keys i h)
 
 -- number 8 of a plan is that of its records in the file
-pub from-is : (s : List ℕ) → Bytes s → (m ns ks : List ℕ) → ByNumber m ns 0 → any (fromMissing ns) (map (linkAt s) ks) ≡ any (fromMissingBy s m) ks
+pub from-is : (s : List ℕ) → Bytes s → (m ns ks : List ℕ) → ByNumber m ns 0
+    → any (fromMissing ns) (map (linkAt s) ks) ≡ any (fromMissingBy s m) ks
 from-is s B m ns ks S =
     any-map (fromMissing ns) (linkAt s) ks
     ∙ any-same (λ (p : ℕ). fromMissing ns (linkAt s p)) (fromMissingBy s m) ks (λ p. rw (S .at (u16At s (p + 6)) (word-below s (p + 6) B)))
@@ -74,7 +75,8 @@ module _ (s : List ℕ) where
       let e : p + 8 + 2 ≡ p + 10 = omega arith in
       rw (lane-counts (a .lanes), section-counts (a .sections), lane-keys s (a .lanes), section-keys s (a .sections), e)
 
-  pub wrong-is : (a : Starts) (ps : List ℕ) → any (misplaced (planOf s a)) (map (placeAt s) ps) ≡ any (misplacedIn s (a .lanes) (a .sections)) ps
+  pub wrong-is : (a : Starts) (ps : List ℕ)
+      → any (misplaced (planOf s a)) (map (placeAt s) ps) ≡ any (misplacedIn s (a .lanes) (a .sections)) ps
   wrong-is a ps =
       any-map (misplaced (planOf s a)) (placeAt s) ps
       ∙ any-same (λ (p : ℕ). misplaced (planOf s a) (placeAt s p)) (misplacedIn s (a .lanes) (a .sections)) ps (one-is a)

@@ -158,7 +158,8 @@ pub fn index_numbers(file: &[u8], part: &[usize], rows: &mut [u16])
 // The row of the lane that a record names first; 256 for none.
 pub fn lane_row(file: &[u8], at: usize, rows: &[u16]) -> usize
     requires { ⌜ (at + 8 ≤ length (now file)) × (length (now rows) ≡ 65536) ⌝ }
-    ensures { λ r. ⌜ (r ≡ getD (now (rows .entry)) (u16At (now (file .entry)) (at + 6)) 0) × (u16At (now (file .entry)) (at + 6) < 65536) ⌝ }
+    ensures { λ r. ⌜ (r ≡ getD (now (rows .entry)) (u16At (now (file .entry)) (at + 6)) 0)
+        × (u16At (now (file .entry)) (at + 6) < 65536) ⌝ }
 {
     let n = u16_at(file, at + 6);
     rows[n] as usize
@@ -265,7 +266,9 @@ pub fn whole(
     rows: &mut [u16],
 ) -> usize
     requires { ⌜ Parts (now file) (now lanes) (now links) (now sections) (now places) × (length (now rows) ≡ 65536) ⌝ }
-    ensures { λ r. ⌜ (r ≡ wholeIn (now (file .entry)) side (now (lanes .entry)) (now (links .entry)) (now (sections .entry)) (now (places .entry))) × (r ≡ 0 → ByNumber (now (rows .exit)) (map (keyAt (now (file .entry)) 0) (now (lanes .entry))) 0) ⌝ }
+    ensures { λ r. ⌜ (r ≡ wholeIn (now (file .entry)) side (now (lanes .entry)) (now (links .entry)) (now (sections .entry))
+        (now (places .entry)))
+        × (r ≡ 0 → ByNumber (now (rows .exit)) (map (keyAt (now (file .entry)) 0) (now (lanes .entry))) 0) ⌝ }
 {
     if 1 < side {
         return 5;

@@ -20,7 +20,7 @@ plan-compare [--seed S] [--count N] [--random] [--folder FOLDER] [--keep FILE] A
   --keep     write the smallest differing plan to a file";
 
 /// How long a program may take for one plan.
-const PATIENCE: Duration = Duration::from_secs(20);
+const TIME_LIMIT: Duration = Duration::from_secs(20);
 
 #[derive(Default)]
 struct Options {
@@ -54,11 +54,12 @@ fn run() -> Result<bool, String> {
         let (left, right) = (output(a, &case.file)?, output(b, &case.file)?);
         if left != right {
             report(&case, a, b, options.keep.as_deref())?;
+            println!("{agreed} passed, 1 failed");
             return Ok(false);
         }
         agreed += 1;
     }
-    println!("{agreed} plans, no difference");
+    println!("{agreed} passed, 0 failed");
     Ok(true)
 }
 
@@ -128,11 +129,11 @@ fn output(program: &str, file: &[u8]) -> Result<Vec<u8>, String> {
         let read = stdout.read_to_end(&mut text);
         drop(send.send(read.map(|_| text)));
     });
-    match printed.recv_timeout(PATIENCE) {
+    match printed.recv_timeout(TIME_LIMIT) {
         Ok(text) => {
             let mut text = text.map_err(|e| e.to_string())?;
             let status = child.wait().map_err(|e| e.to_string())?;
-            if status.code().is_none() || status.code() == Some(101) {
+            if !status.success() {
                 text.extend(format!("failed: {status}\n").bytes());
             }
             Ok(text)

@@ -3,23 +3,23 @@
 use crate::rng::Rng;
 use crate::write::{record, Records};
 
-/// One to three wounds: bytes changed, cut out or put in, records doubled, moved, cut or with another length.
+/// One to three changes: bytes changed, cut out or put in, records doubled, moved, cut or with another length.
 pub fn damaged(rng: &mut Rng, good: &Records) -> Vec<u8> {
     let mut records = good.clone();
     if records.0.is_empty() {
         return any_bytes(rng);
     }
     for _ in 0..rng.between(0, 2) {
-        harm_records(rng, &mut records);
+        change_records(rng, &mut records);
     }
     let mut bytes = records.bytes();
     if !bytes.is_empty() && rng.once_in(2) {
-        harm_bytes(rng, &mut bytes);
+        change_bytes(rng, &mut bytes);
     }
     bytes
 }
 
-fn harm_records(rng: &mut Rng, records: &mut Records) {
+fn change_records(rng: &mut Rng, records: &mut Records) {
     let at = rng.below(records.0.len());
     match rng.below(6) {
         0 => {
@@ -53,7 +53,7 @@ fn harm_records(rng: &mut Rng, records: &mut Records) {
     }
 }
 
-fn harm_bytes(rng: &mut Rng, bytes: &mut Vec<u8>) {
+fn change_bytes(rng: &mut Rng, bytes: &mut Vec<u8>) {
     let at = rng.below(bytes.len());
     match rng.below(4) {
         0 => bytes.truncate(at),

@@ -19,8 +19,9 @@ pub fn cases() -> Vec<Case> {
         advance_by_nothing(),
         vanished_segments(),
         ring_stop(),
+        short_span(),
     ];
-    cases.extend(hairs());
+    cases.extend(last_bits());
     cases
 }
 
@@ -191,6 +192,19 @@ fn vanished_segments() -> Case {
     case("vanished-segments", &plan, stations.map(|s| Query::Pose { lane: 1, s }).to_vec())
 }
 
+/// Last lanes left one bit below, at and above 1e-4 m from where they are entered: from there on there is a second
+/// sample. The first lies within 1 mm of the last point kept and is dropped; the second does not.
+fn short_span() -> Case {
+    let limit = 1e-4f32;
+    let mut plan = Plan::default();
+    plan.lanes.push(lane(1, &[[-8.0, 0.0, 0.0], [-0.000_99, 0.0, 0.0]]));
+    plan.lanes.push(lane(2, &[[0.0; 3], [1.0, 0.0, 0.0]]));
+    plan.links.push(link(1, SUCCESSOR, 2));
+    let goals = [limit.next_down(), limit, limit.next_up()];
+    plan.queries = goals.map(|x| route([-4.0, 0.0, 0.0], [x, 0.0, 0.0])).to_vec();
+    case("span-of-1e-4", &plan, Vec::new())
+}
+
 /// Two lanes at the distance at which the rings stop, one of them a ring too far out by rounding. It was found
 /// among the family's plans.
 fn ring_stop() -> Case {
@@ -199,9 +213,9 @@ fn ring_stop() -> Case {
 }
 
 /// Plans in which the order of visiting spans decides, found among their family's.
-fn hairs() -> impl Iterator<Item = Case> {
+fn last_bits() -> impl Iterator<Item = Case> {
     [18, 34, 36, 40, 50, 80, 1850].into_iter().filter_map(|index| {
-        let found = super::family_case("hair", 1, index)?;
-        Some(Case { name: format!("edge-hair-{index}"), ..found })
+        let found = super::family_case("last-bit", 1, index)?;
+        Some(Case { name: format!("edge-last-bit-{index}"), ..found })
     })
 }

@@ -1,4 +1,4 @@
-//! Random plans, one family for each kind of trouble.
+//! Random plans, one family for each kind of case.
 
 use super::sketch::*;
 use crate::bake::bake;
@@ -535,14 +535,14 @@ pub fn line(rng: &mut Rng) -> Plan {
 
 /// Lanes that end at one distance from the query but for the rounding of each, so that the order in which spans
 /// are visited decides: on a circle about it, at one point far from it, or on both sides of it on a line.
-pub fn hair(rng: &mut Rng) -> Plan {
+pub fn last_bit(rng: &mut Rng) -> Plan {
     let mut plan = Plan::default();
     let centre = if rng.once_in(2) { [0.0; 3] } else { [rng.spread(30.0), rng.spread(30.0), 0.0] };
     let scale = rng.pick(&[20.0, 60.0, 100.3, 200.0, 0.03]) * (0.5 + rng.unit() as f32);
     let style = rng.below(3);
     let count = rng.between(4, 20);
     for number in numbers(rng, count) {
-        let points = hair_points(rng, centre, scale, style);
+        let points = last_bit_points(rng, centre, scale, style);
         plan.lanes.push(lane(number, &points));
     }
     plan.queries.push(route(centre, centre));
@@ -555,8 +555,8 @@ pub fn hair(rng: &mut Rng) -> Plan {
     plan
 }
 
-/// One lane of `hair`: it comes from farther out and ends at five times `scale` from the centre.
-fn hair_points(rng: &mut Rng, centre: [f32; 3], scale: f32, style: usize) -> Vec<[f32; 3]> {
+/// One lane of `last_bit`: it comes from farther out and ends at five times `scale` from the centre.
+fn last_bit_points(rng: &mut Rng, centre: [f32; 3], scale: f32, style: usize) -> Vec<[f32; 3]> {
     let circle = [[3.0, 4.0], [4.0, 3.0], [5.0, 0.0], [0.0, 5.0]];
     let sign = |rng: &mut Rng| rng.pick(&[1.0, -1.0]);
     let end = match style {

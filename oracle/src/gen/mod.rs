@@ -49,7 +49,7 @@ pub const FAMILIES: &[(&str, Draw)] = &[
     ("keys", families::keys),
     ("full", families::full),
     ("line", families::line),
-    ("hair", families::hair),
+    ("last-bit", families::last_bit),
     ("sampled", families::sampled),
     ("tangents", families::tangents),
 ];

@@ -256,7 +256,7 @@ fn position(rng: &mut Rng, plan: &Plan) -> (u16, f64) {
     (place.lane, s)
 }
 
-/// A distance: nothing, a few metres, a sum of lane lengths, that plus or minus a hair, or an odd one.
+/// A distance: nothing, a few metres, a sum of lane lengths, that plus or minus a little, or an odd one.
 fn distance(rng: &mut Rng, plan: &Plan) -> f64 {
     let mut length = 0.0;
     for _ in 0..rng.below(4) {

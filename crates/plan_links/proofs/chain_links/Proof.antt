@@ -20,7 +20,8 @@ module _ (s m : List ℕ) (p a b : ℕ) (e : a ≡ getD m (u16At s (p + 6)) 0) w
   lane-below : linkKey s m p < 768 → 3 * a < 768
   lane-below h = let z : 3 * a ≡ 3 * getD m (u16At s (p + 6)) 0 = ap (λ (x : ℕ). 3 * x) e in omega arith
 
-at-start : (n : ℕ) (f : ℕ → ℕ) (links first nx : List ℕ) (j : ℕ) → Chains n first nx (map f (drop j links)) j → j ≤ 0 → Chains n first nx (map f links) 0
+at-start : (n : ℕ) (f : ℕ → ℕ) (links first nx : List ℕ) (j : ℕ) → Chains n first nx (map f (drop j links)) j → j ≤ 0
+    → Chains n first nx (map f links) 0
 at-start n f links first nx j C h = let e : j ≡ 0 = omega arith in rw e at C
 
 abbrev Inv-loop : tie.InvT-loop

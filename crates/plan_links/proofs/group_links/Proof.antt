@@ -188,7 +188,8 @@ put-row-requires c κs =
 add-k : tie.Need-add-k Inv-loop μ-loop
 add-k c =
     let write-links3 = c .before .before .before .before .before .before .before .before .before .write-links3 in
-    let write-links2 = c .before .before .before .before .before .before .before .before .before .before .before .before .before .write-links2 in
+    let write-links2 =
+    c .before .before .before .before .before .before .before .before .before .before .before .before .before .write-links2 in
     let d = c .before .before .before .before .before .before .before .before .before .before .before .before .before in
     let write-links = d .before .before .before .before .write-links in
     let l = d .before .before .before .before .before .before .before .loop in
@@ -201,7 +202,8 @@ add-k c =
 add-k-2 : tie.Need-add-k-2 Inv-loop μ-loop
 add-k-2 c =
     let write-links3 = c .before .before .before .before .before .before .before .before .before .write-links3 in
-    let write-links2 = c .before .before .before .before .before .before .before .before .before .before .before .before .before .write-links2 in
+    let write-links2 =
+    c .before .before .before .before .before .before .before .before .before .before .before .before .before .write-links2 in
     let d = c .before .before .before .before .before .before .before .before .before .before .before .before .before in
     let write-links = d .before .before .before .before .write-links in
     let l = d .before .before .before .before .before .before .before .loop in
@@ -214,7 +216,8 @@ add-k-2 c =
 add-k-3 : tie.Need-add-k-3 Inv-loop μ-loop
 add-k-3 c =
     let write-links3 = c .before .before .before .before .before .before .before .before .before .write-links3 in
-    let write-links2 = c .before .before .before .before .before .before .before .before .before .before .before .before .before .write-links2 in
+    let write-links2 =
+    c .before .before .before .before .before .before .before .before .before .before .before .before .before .write-links2 in
     let d = c .before .before .before .before .before .before .before .before .before .before .before .before .before in
     let write-links = d .before .before .before .before .write-links in
     let l = d .before .before .before .before .before .before .before .loop in

@@ -62,7 +62,7 @@ struct Trial {
 
 fn main() -> ExitCode {
     match parse() {
-        Ok(Options { run: Some(number), .. }) => be(number),
+        Ok(Options { run: Some(number), .. }) => answer_as(number),
         Ok(options) => try_all(&options),
         Err(why) => {
             eprintln!("{why}");
@@ -91,7 +91,7 @@ fn parse() -> Result<Options, String> {
 }
 
 /// Answers as one wrong oracle does.
-fn be(number: usize) -> ExitCode {
+fn answer_as(number: usize) -> ExitCode {
     let mut file = Vec::new();
     if io::stdin().read_to_end(&mut file).is_err() {
         return ExitCode::from(2);

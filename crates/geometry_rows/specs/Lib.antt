@@ -1,0 +1,3 @@
+-- The tables of arc lengths and tangents of all lanes.
+pub mod Rows
+pub mod RowsLaws

@@ -1,0 +1,4 @@
+-- Laws of grids and rings, which the search over a grid stands on.
+pub mod Sides
+pub mod Runs
+pub mod Rings

@@ -1,0 +1,4 @@
+-- What grid.rs answers.
+pub mod Grid
+pub mod Ring
+pub mod Examples

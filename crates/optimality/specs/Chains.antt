@@ -1,0 +1,62 @@
+-- Document 01, "The reader's chains": chains of link records and what they cost. Lanes go by their numbers; nothing here is of the search.
+use mathlib.Core.Bool.{Bool, cond, false, true, _&&_, _||_}
+use mathlib.Core.List.{List, [], _∷_}
+use mathlib.Core.Path.{_≡_}
+use Prim.Native.Nat.{ℕ, _≤_}
+use lib.Dec.{eqb}
+use lib.Ieee.{Float, add, binary32, le, lt, nan, ofBits}
+use lib.ListN.{getD, length}
+use Rattle.optimality.specs.Records.{Link, indexOf}
+
+-- there is a link record of this role from lane u to lane v
+unfoldable pub hasLink : List Link → ℕ → ℕ → ℕ → Bool
+hasLink [] role u v = false
+hasLink (x ∷ xs) role u v = (eqb (x .from) u && (eqb (x .role) role && eqb (x .to) v)) || hasLink xs role u v
+
+-- a step of a chain: a link record of role 0, successor, or 2, neighbour
+abbrev pub isStep : List Link → ℕ → ℕ → Bool
+isStep links u v = hasLink links 0 u v || hasLink links 2 u v
+
+-- from u through the lanes that follow, step by step, to the goal
+unfoldable pub leadsTo : List Link → ℕ → ℕ → List ℕ → Bool
+leadsTo links goal u [] = eqb u goal
+leadsTo links goal u (v ∷ vs) = isStep links u v && leadsTo links goal v vs
+
+-- a chain of links: a list of two or more lanes, from the start to the goal; a lane may stand again
+unfoldable pub isChain : List Link → ℕ → ℕ → List ℕ → Bool
+isChain links start goal [] = false
+isChain links start goal (u ∷ []) = false
+isChain links start goal (u ∷ (v ∷ vs)) = eqb u start && leadsTo links goal u (v ∷ vs)
+
+-- what a lane change costs: 30
+abbrev pub thirty : Float
+thirty = ofBits binary32 0x41f00000
+
+-- the plan's lanes have these numbers and, in the same order, these f32 lengths
+module _ (numbers : List ℕ) (lengths : List Float) (links : List Link) where
+  abbrev pub laneLength : ℕ → Float
+  laneLength u = getD lengths (indexOf u numbers 0 256) nan
+
+  -- a step costs the length of the lane left for role 0 and 30 for role 2, the cheaper where both stand
+  unfoldable pub stepCost : ℕ → ℕ → Float
+  stepCost u v =
+      cond (hasLink links 0 u v)
+      (cond (hasLink links 2 u v) (cond (lt thirty (laneLength u)) thirty (laneLength u)) (laneLength u))
+      thirty
+
+  -- a chain's cost adds its steps in f32, first to last, from 0
+  unfoldable pub addSteps : Float → ℕ → List ℕ → Float
+  addSteps c u [] = c
+  addSteps c u (v ∷ vs) = addSteps (add binary32 c (stepCost u v)) v vs
+
+  unfoldable pub chainCost : List ℕ → Float
+  chainCost [] = ofBits binary32 0
+  chainCost (u ∷ vs) = addSteps (ofBits binary32 0) u vs
+
+  -- what an answer owes, `ok` or refused, for all chains however long
+  pub record Optimal (start goal : ℕ) (ok : Bool) (chain : List ℕ) (cost : Float) : Type 0 where
+    pub is-chain : ok ≡ true → isChain links start goal chain ≡ true
+    pub cost-is : ok ≡ true → cost ≡ chainCost chain
+    pub least : ok ≡ true → (other : List ℕ) → isChain links start goal other ≡ true → le cost (chainCost other) ≡ true
+    pub fits : ok ≡ true → length chain ≤ 257
+    pub refused : ok ≡ false → (other : List ℕ) → isChain links start goal other ≡ false

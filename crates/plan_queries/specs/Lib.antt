@@ -1,0 +1,3 @@
+-- Laws of the walk over a file's queries.
+pub mod Seeking
+pub mod Followed
