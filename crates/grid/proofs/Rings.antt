@@ -50,7 +50,8 @@ module _ (cx cy r cols : ℕ) where
       shift d = omega arith
 
   module _ (rows : ℕ) where
-    row-in-ring : (iy : ℕ) → iy < rows → cy ≤ iy + r → iy ≤ cy + r → Some (columnsOf cx cy r cols iy) → isEmpty (ringOf cols rows cx cy r) ≡ false
+    row-in-ring : (iy : ℕ) → iy < rows → cy ≤ iy + r → iy ≤ cy + r → Some (columnsOf cx cy r cols iy)
+        → isEmpty (ringOf cols rows cx cy r) ≡ false
     unfolding ringOf nearTo
     row-in-ring iy l h k s =
         let e : cy - r + (iy - (cy - r)) ≡ iy = omega arith in
@@ -89,7 +90,8 @@ module _ (cx cy r cols : ℕ) where
           by false = simp (lt-ltb (cx + r) cols h) (record { first = cx + r; rest = []; is = refl })
 
       pub bottom-inside : r ≤ cy → isEmpty (ringOf cols rows cx cy r) ≡ false
-      bottom-inside h = row-in-ring (cy - r) (omega arith) (omega arith) (omega arith) (simp (eq-eqb (cy - r + r) cy (omega arith)) near-some)
+      bottom-inside h =
+          row-in-ring (cy - r) (omega arith) (omega arith) (omega arith) (simp (eq-eqb (cy - r + r) cy (omega arith)) near-some)
 
       top-inside : cy + r < rows → isEmpty (ringOf cols rows cx cy r) ≡ false
       top-inside h = row-in-ring (cy + r) h (omega arith) (omega arith) (by (eqb (cy + r + r) cy))

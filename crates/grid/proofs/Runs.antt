@@ -103,7 +103,8 @@ module _ (cx cy r cols iy : ℕ) where
   pub columns-listed : cy ≤ iy + r → iy ≤ cy + r → listed (columnsRun cx cy r cols iy) ≡ columnsOf cx cy r cols iy
   columns-listed h k = by (isEdge cy r iy) (λ e. inner e h k)
     where
-      by : (b : Bool) → (b ≡ false → 0 < r) → listed (cond b (nearRun cx r cols) (endsRun cx r cols)) ≡ cond b (nearTo cx r cols) (endColumns cx r cols)
+      by : (b : Bool) → (b ≡ false → 0 < r)
+          → listed (cond b (nearRun cx r cols) (endsRun cx r cols)) ≡ cond b (nearTo cx r cols) (endColumns cx r cols)
       by true f = near-listed cx r cols
       by false f = ends-listed cx r cols (f refl)
 
@@ -117,6 +118,7 @@ module _ (cx cy r cols iy : ℕ) where
   pub columns-few : r ≤ 1024 → cols ≤ 1024 → (columnsRun cx cy r cols iy .step ≤ 2048) × (columnsRun cx cy r cols iy .end ≤ 1024)
   columns-few h k = by (isEdge cy r iy)
     where
-      by : (b : Bool) → ((cond b (nearRun cx r cols) (endsRun cx r cols)) .step ≤ 2048) × ((cond b (nearRun cx r cols) (endsRun cx r cols)) .end ≤ 1024)
+      by : (b : Bool)
+          → ((cond b (nearRun cx r cols) (endsRun cx r cols)) .step ≤ 2048) × ((cond b (nearRun cx r cols) (endsRun cx r cols)) .end ≤ 1024)
       by true = (omega arith, omega arith)
       by false = (omega arith, omega arith)

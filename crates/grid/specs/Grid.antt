@@ -31,7 +31,8 @@ abbrev pub boxAt : Float → Float → Aabb
 boxAt x y = record { «min_x» = x; «max_x» = x; «min_y» = y; «max_y» = y }
 
 unfoldable pub grown : Aabb → Float → Float → Aabb
-grown b x y = record { «min_x» = minOf (b .«min_x») x; «max_x» = maxOf (b .«max_x») x; «min_y» = minOf (b .«min_y») y; «max_y» = maxOf (b .«max_y») y }
+grown b x y =
+    record { «min_x» = minOf (b .«min_x») x; «max_x» = maxOf (b .«max_x») x; «min_y» = minOf (b .«min_y») y; «max_y» = maxOf (b .«max_y») y }
 
 abbrev pub padded : Float → Aabb → Aabb
 padded r b = record {

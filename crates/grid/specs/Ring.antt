@@ -1,4 +1,5 @@
--- grid.rs, `Grid::ring`: the cells at Chebyshev distance r from the cell (cx, cy), in the order in which the search visits them; and when the search stops.
+-- grid.rs, `Grid::ring`: the cells at Chebyshev distance r from the cell (cx, cy), in the order in which the search visits them; and when
+-- the search stops.
 -- The Rust counts from cx - r to cx + r in signed numbers and keeps what lies from 0 to cols - 1; here `-` stops at 0. Definitions only.
 use Prim.Native.Nat.{ℕ, zero, suc, _+_, _-_, _*_, _<_, min}
 use mathlib.Core.Bool.{Bool, true, false, cond, _&&_, _||_}

@@ -166,7 +166,8 @@ impl Grid {
         near(cy, r, self.rows)
     }
 
-    // The columns of ring r about the cell (cx, cy) in row iy: the first and the last row of a ring have all of theirs, a row between them its two ends.
+    // The columns of ring r about the cell (cx, cy) in row iy: the first and the last row of a ring have all of theirs, a row between
+    // them its two ends.
     pub fn ring_columns(self, cx: usize, cy: usize, r: usize, iy: usize) -> Run
         requires { ⌜ (cx < 1024) × (cy < 1024) × (r ≤ 1024) × (iy < 1024) ⌝ }
         ensures { λ w. ⌜ w ≡ columnsRun cx cy r (self .cols) iy ⌝ }
@@ -197,7 +198,8 @@ impl Grid {
         self.rows <= cy + r
     }
 
-    // Whether nothing in ring r or beyond can be nearer than the squared distance d2: those cells are r - 1 whole cells away from the query's own.
+    // Whether nothing in ring r or beyond can be nearer than the squared distance d2: those cells are r - 1 whole cells away from the
+    // query's own.
     pub fn reached(self, r: usize, d2: f32) -> bool
         ensures { λ w. ⌜ w ≡ reachedAt self r d2 ⌝ }
     {

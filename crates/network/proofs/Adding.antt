@@ -19,8 +19,10 @@ driving-cons table l ls = by (drives table l)
     by false = refl
 
 -- rows of one width for a list in two parts: the first part is written
-after : {A : Type 0} (row : Span → List A) (w : ℕ) (wide : (s : Span) → length (row s) ≡ w) (xs ys zs : List Span) (k r : ℕ) (out next whole : List A)
-    → zs ≡ xs ++ ys → r ≡ k + length xs → next ≡ filled row xs (w * k) out → filled row zs (w * k) out ≡ whole → filled row ys (w * r) next ≡ whole
+after : {A : Type 0} (row : Span → List A) (w : ℕ) (wide : (s : Span) → length (row s) ≡ w) (xs ys zs : List Span) (k r : ℕ)
+    (out next whole : List A)
+    → zs ≡ xs ++ ys → r ≡ k + length xs → next ≡ filled row xs (w * k) out → filled row zs (w * k) out ≡ whole
+    → filled row ys (w * r) next ≡ whole
 after {A} row w wide xs ys zs k r out next whole split count is-next e =
     ap (λ (m : ℕ). filled row ys (w * m) next) count
     ∙ ap (filled row ys (w * (k + length xs))) is-next
@@ -46,7 +48,16 @@ module _ (lanes : List ℕ) (points : List Float) (table : List Bool) (n : ℕ) 
     pub boxes-length : length boxes ≡ length boxes₀
 
   pub add-start : Adding 0 0 spans₀ boxes₀
-  add-start = record { left = n; all = omega arith; count = omega arith; in-spans = refl; in-boxes = refl; spans-length = refl; boxes-length = refl }
+  add-start =
+      record {
+        left = n;
+        all = omega arith;
+        count = omega arith;
+        in-spans = refl;
+        in-boxes = refl;
+        spans-length = refl;
+        boxes-length = refl;
+      }
 
   split : (left row : ℕ) → from (suc left) row ≡ one row ++ from left (suc row)
   unfolding lanesFrom
@@ -67,7 +78,8 @@ module _ (lanes : List ℕ) (points : List Float) (table : List Bool) (n : ℕ) 
             let b = r .inBoxes in
             record { inSpans = omega (arith, c .spans-length); inBoxes = omega (arith, c .boxes-length) }
 
-    pub add-next : (r : ℕ) (spans' : List ℕ) (boxes' : List Float) → row < n → Added (one row) k r spans spans' boxes boxes' → Adding (row + 1) r spans' boxes'
+    pub add-next : (r : ℕ) (spans' : List ℕ) (boxes' : List Float) → row < n → Added (one row) k r spans spans' boxes boxes'
+        → Adding (row + 1) r spans' boxes'
     add-next r spans' boxes' h a = by (c .left) (c .all) (c .count) (c .in-spans) (c .in-boxes)
       where
         by : (left : ℕ) → row + left ≡ n → k + length (from left row) ≡ length (from n 0)
@@ -82,9 +94,13 @@ module _ (lanes : List ℕ) (points : List Float) (table : List Bool) (n : ℕ) 
               left = m;
               all = omega arith;
               count = omega (arith, a .count);
-              in-spans = after spanRow 3 (λ x. refl) (one row) (from m (suc row)) (from (suc m) row) k r spans spans' (filled spanRow (from n 0) 0 spans₀)
+              in-spans =
+                  after spanRow 3 (λ x. refl) (one row) (from m (suc row)) (from (suc m) row) k r spans spans'
+                  (filled spanRow (from n 0) 0 spans₀)
                   (split m row) (a .count) (a .inSpans) s;
-              in-boxes = after spanBox 4 (λ x. refl) (one row) (from m (suc row)) (from (suc m) row) k r boxes boxes' (filled spanBox (from n 0) 0 boxes₀)
+              in-boxes =
+                  after spanBox 4 (λ x. refl) (one row) (from m (suc row)) (from (suc m) row) k r boxes boxes'
+                  (filled spanBox (from n 0) 0 boxes₀)
                   (split m row) (a .count) (a .inBoxes) b;
               spans-length = ap length (a .inSpans) ∙ filled-length spanRow (one row) (3 * k) spans ∙ c .spans-length;
               boxes-length = ap length (a .inBoxes) ∙ filled-length spanBox (one row) (4 * k) boxes ∙ c .boxes-length;
@@ -96,6 +112,7 @@ module _ (lanes : List ℕ) (points : List Float) (table : List Bool) (n : ℕ) 
       where
         by : (left : ℕ) → row + left ≡ n → k + length (from left row) ≡ length (from n 0)
             → filled spanRow (from left row) (3 * k) spans ≡ filled spanRow (from n 0) 0 spans₀
-            → filled spanBox (from left row) (4 * k) boxes ≡ filled spanBox (from n 0) 0 boxes₀ → Added (from n 0) 0 k spans₀ spans boxes₀ boxes
+            → filled spanBox (from left row) (4 * k) boxes ≡ filled spanBox (from n 0) 0 boxes₀
+            → Added (from n 0) 0 k spans₀ spans boxes₀ boxes
         by zero all count s b = record { count = omega arith; inSpans = s; inBoxes = b }
         by (suc m) all count s b = absurd (omega arith)

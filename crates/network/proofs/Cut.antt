@@ -29,7 +29,8 @@ driving-none : (table : List Bool) (l : Lane) → drives table l ≡ false → d
 unfolding driving
 driving-none table l e = ap (λ (b : Bool). cond b (spansOf l ++ []) []) e
 
-pub not-driving : (table : List Bool) (l : Lane) (k : ℕ) (spans : List ℕ) (boxes : List Float) → drives table l ≡ false → Added (driving table (l ∷ [])) k k spans spans boxes boxes
+pub not-driving : (table : List Bool) (l : Lane) (k : ℕ) (spans : List ℕ) (boxes : List Float) → drives table l ≡ false
+    → Added (driving table (l ∷ [])) k k spans spans boxes boxes
 unfolding filled
 not-driving table l k spans boxes e = rw (driving-none table l e) (record { count = omega arith; inSpans = refl; inBoxes = refl })
 
@@ -50,10 +51,22 @@ module _ (l : Lane) (k : ℕ) (spans₀ : List ℕ) (boxes₀ : List Float) wher
 
   pub cut-start : Cutting k 0 spans₀ boxes₀
   unfolding spansOf
-  cut-start = record { j = 0; left = spanCount l; all = omega arith; at-is = omega arith; first-is = refl; in-spans = refl; in-boxes = refl; spans-length = refl; boxes-length = refl }
+  cut-start =
+      record {
+        j = 0;
+        left = spanCount l;
+        all = omega arith;
+        at-is = omega arith;
+        first-is = refl;
+        in-spans = refl;
+        in-boxes = refl;
+        spans-length = refl;
+        boxes-length = refl;
+      }
 
   module _ {at first : ℕ} {spans : List ℕ} {boxes : List Float} (c : Cutting at first spans boxes) where
-    pub cut-room : (table : List Bool) → drives table l ≡ true → Room (driving table (l ∷ [])) k spans₀ boxes₀ → first < l .count - 1 → (3 * at + 2 < length spans) × (4 * at + 3 < length boxes)
+    pub cut-room : (table : List Bool) → drives table l ≡ true → Room (driving table (l ∷ [])) k spans₀ boxes₀ → first < l .count - 1
+        → (3 * at + 2 < length spans) × (4 * at + 3 < length boxes)
     unfolding spansOf
     cut-room table e r h =
         let n = cut-length l (spanCount l) 0 in
@@ -62,13 +75,16 @@ module _ (l : Lane) (k : ℕ) (spans₀ : List ℕ) (boxes₀ : List Float) wher
         let b = r' .inBoxes in
         (omega arith, omega arith)
 
-    pub cut-end : (table : List Bool) → drives table l ≡ true → l .count - 1 ≤ first → Added (driving table (l ∷ [])) k at spans₀ spans boxes₀ boxes
+    pub cut-end : (table : List Bool) → drives table l ≡ true → l .count - 1 ≤ first
+        → Added (driving table (l ∷ [])) k at spans₀ spans boxes₀ boxes
     unfolding spansOf filled cutFrom
     cut-end table e h = rw (driving-one table l e) (by (c .left) (omega arith) (c .in-spans) (c .in-boxes))
       where
         by : (left : ℕ) → left ≡ 0 → filled spanRow (cutFrom l left (c .j)) (3 * at) spans ≡ filled spanRow (spansOf l) (3 * k) spans₀
-            → filled spanBox (cutFrom l left (c .j)) (4 * at) boxes ≡ filled spanBox (spansOf l) (4 * k) boxes₀ → Added (spansOf l) k at spans₀ spans boxes₀ boxes
-        by zero z s b = record { count = c .at-is ∙ ap (λ (n : ℕ). k + n) (whole ∙ sym (cut-length l (spanCount l) 0)); inSpans = s; inBoxes = b }
+            → filled spanBox (cutFrom l left (c .j)) (4 * at) boxes ≡ filled spanBox (spansOf l) (4 * k) boxes₀
+            → Added (spansOf l) k at spans₀ spans boxes₀ boxes
+        by zero z s b =
+            record { count = c .at-is ∙ ap (λ (n : ℕ). k + n) (whole ∙ sym (cut-length l (spanCount l) 0)); inSpans = s; inBoxes = b }
           where
             whole : c .j ≡ spanCount l
             whole = omega arith
@@ -85,18 +101,22 @@ module _ (l : Lane) (k : ℕ) (spans₀ : List ℕ) (boxes₀ : List Float) wher
       unfolding spanAt
       box-is b is-b =
           let e : end - first ≡ min 4 (l .count - 1 - 4 * c .j) = omega arith in
-          is-b ∙ ap (λ (n : ℕ). padded zero⁺ (around (l .points) first n)) e ∙ ap (λ (n : ℕ). padded zero⁺ (around (l .points) n (min 4 (l .count - 1 - 4 * c .j)))) (c .first-is)
+          is-b ∙ ap (λ (n : ℕ). padded zero⁺ (around (l .points) first n)) e
+          ∙ ap (λ (n : ℕ). padded zero⁺ (around (l .points) n (min 4 (l .count - 1 - 4 * c .j)))) (c .first-is)
 
       next-left : (n : ℕ) → c .j + n ≡ spanCount l → 0 < n
       next-left n e = omega arith
 
       pub cut-next : (b : Aabb) (spans' : List ℕ) (boxes' : List Float) → b ≡ padded zero⁺ (around (l .points) first (end - first))
-          → spans' ≡ sets spans (3 * at) (l .row ∷ first ∷ end ∷ []) → boxes' ≡ sets boxes (4 * at) (boxRow b) → Cutting (at + 1) (first + 4) spans' boxes'
+          → spans' ≡ sets spans (3 * at) (l .row ∷ first ∷ end ∷ []) → boxes' ≡ sets boxes (4 * at) (boxRow b)
+          → Cutting (at + 1) (first + 4) spans' boxes'
       unfolding cutFrom
       cut-next b spans' boxes' is-b is-spans is-boxes = by (c .left) (c .all) (c .in-spans) (c .in-boxes)
         where
-          by : (left : ℕ) → c .j + left ≡ spanCount l → filled spanRow (cutFrom l left (c .j)) (3 * at) spans ≡ filled spanRow (spansOf l) (3 * k) spans₀
-              → filled spanBox (cutFrom l left (c .j)) (4 * at) boxes ≡ filled spanBox (spansOf l) (4 * k) boxes₀ → Cutting (at + 1) (first + 4) spans' boxes'
+          by : (left : ℕ) → c .j + left ≡ spanCount l
+              → filled spanRow (cutFrom l left (c .j)) (3 * at) spans ≡ filled spanRow (spansOf l) (3 * k) spans₀
+              → filled spanBox (cutFrom l left (c .j)) (4 * at) boxes ≡ filled spanBox (spansOf l) (4 * k) boxes₀
+              → Cutting (at + 1) (first + 4) spans' boxes'
           by zero all s o = absurd (omega (arith, next-left 0 all))
           by (suc n) all s o = record {
             j = suc (c .j);
@@ -106,7 +126,9 @@ module _ (l : Lane) (k : ℕ) (spans₀ : List ℕ) (boxes₀ : List Float) wher
             first-is = omega (arith, c .first-is);
             in-spans = ap (filled spanRow (cutFrom l n (suc (c .j))) (3 * (at + 1))) (is-spans ∙ ap (sets spans (3 * at)) row-is)
                 ∙ sym (filled-next spanRow 3 (λ x. refl) (spanAt l (c .j)) (cutFrom l n (suc (c .j))) at spans) ∙ s;
-            in-boxes = ap (filled spanBox (cutFrom l n (suc (c .j))) (4 * (at + 1))) (is-boxes ∙ ap (λ (v : Aabb). sets boxes (4 * at) (boxRow v)) (box-is b is-b))
+            in-boxes =
+                ap (filled spanBox (cutFrom l n (suc (c .j))) (4 * (at + 1)))
+                (is-boxes ∙ ap (λ (v : Aabb). sets boxes (4 * at) (boxRow v)) (box-is b is-b))
                 ∙ sym (filled-next spanBox 4 (λ x. refl) (spanAt l (c .j)) (cutFrom l n (suc (c .j))) at boxes) ∙ o;
             spans-length = ap length is-spans ∙ length-sets spans (3 * at) (l .row ∷ first ∷ end ∷ []) ∙ c .spans-length;
             boxes-length = ap length is-boxes ∙ length-sets boxes (4 * at) (boxRow b) ∙ c .boxes-length;

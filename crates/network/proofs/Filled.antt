@@ -15,7 +15,8 @@ module _ {A : Type 0} where
       let two : k + 2 ≡ suc (suc k) = omega arith in
       rw (add-one, two)
 
-  pub sets-four : (out : List A) (k : ℕ) (a b c d : A) → set (set (set (set out k a) (k + 1) b) (k + 2) c) (k + 3) d ≡ sets out k (a ∷ b ∷ c ∷ d ∷ [])
+  pub sets-four : (out : List A) (k : ℕ) (a b c d : A)
+      → set (set (set (set out k a) (k + 1) b) (k + 2) c) (k + 3) d ≡ sets out k (a ∷ b ∷ c ∷ d ∷ [])
   sets-four out k a b c d =
       let two : k + 2 ≡ suc (suc k) = omega arith in
       let three : k + 3 ≡ suc (suc (suc k)) = omega arith in
@@ -49,7 +50,8 @@ module _ {X A : Type 0} (row : X → List A) where
       filled-before xs (k + length (row x)) m (sets out k (row x)) d (omega arith) ∙ sets-before (row x) out k m d h
 
   module _ (w : ℕ) (wide : (x : X) → length (row x) ≡ w) where
-    pub filled-next : (x : X) (xs : List X) (k : ℕ) (out : List A) → filled row (x ∷ xs) (w * k) out ≡ filled row xs (w * (k + 1)) (sets out (w * k) (row x))
+    pub filled-next : (x : X) (xs : List X) (k : ℕ) (out : List A)
+        → filled row (x ∷ xs) (w * k) out ≡ filled row xs (w * (k + 1)) (sets out (w * k) (row x))
     unfolding filled
     filled-next x xs k out =
         let n = wide x in

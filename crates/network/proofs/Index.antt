@@ -15,7 +15,8 @@ use Rattle.grid.proofs.Sides.{sides}
 use Rattle.network.specs.declared.LaneIndex.{LaneIndex}
 use Rattle.network.specs.Lanes.{Lane, Span, spanAt, cutFrom, spanCount, spansOf, drives, driving}
 use Rattle.network.specs.Nearest.{boxesOf, gridFor}
-use Rattle.network.specs.Tables.{laneAt, lanesFrom, firstAt, countAt, Rows, Arcs, spanIn, spanList, Line, Entry, Index, filled, spanRow, spanBox, boxIn, boxList, rangeRow, Added, Room, Built}
+use Rattle.network.specs.Tables.{laneAt, lanesFrom, firstAt, countAt, Rows, Arcs, spanIn, spanList, Line, Entry, Index}
+use Rattle.network.specs.Tables.{filled, spanRow, spanBox, boxIn, boxList, rangeRow, Added, Room, Built}
 use Rattle.network.proofs.Filled.{filled-at, filled-length}
 
 abbrev pub noSpan : Span
@@ -23,7 +24,8 @@ noSpan = record { lane = record { row = 0; number = 0; kind = 0; count = 0; poin
 
 -- entry c of row i of a table that was written from its first entry on
 entry : {X A : Type 0} (row : X → List A) (w : ℕ) (wide : (x : X) → length (row x) ≡ w) (xs : List X) (out table : List A) (none : X) (d : A)
-    → table ≡ filled row xs 0 out → w * length xs ≤ length out → (i c m : ℕ) → i < length xs → c < w → m ≡ w * i + c → getD table m d ≡ getD (row (getD xs i none)) c d
+    → table ≡ filled row xs 0 out → w * length xs ≤ length out → (i c m : ℕ) → i < length xs → c < w → m ≡ w * i + c
+    → getD table m d ≡ getD (row (getD xs i none)) c d
 entry {A = A} row w wide xs out table none d is room i c m l h e =
     let zero-row : w * 0 ≡ 0 = omega arith in
     let same : m ≡ w * (0 + i) + c = omega arith in
@@ -57,7 +59,8 @@ module _ (ss : List Span) (old boxes : List Float) (is : boxes ≡ filled spanBo
 
 -- ---- the grid
 
-module _ (ss : List Span) (r : ℕ) (spans₀ spans : List ℕ) (boxes₀ boxes : List Float) (ranges₀ : List ℕ) (a : Added ss 0 r spans₀ spans boxes₀ boxes) where
+module _ (ss : List Span) (r : ℕ) (spans₀ spans : List ℕ) (boxes₀ boxes : List Float) (ranges₀ : List ℕ)
+    (a : Added ss 0 r spans₀ spans boxes₀ boxes) where
   pub built-none : r ≡ 0 → Built ss (record { count = r; grid = gridFor [] }) spans₀ spans boxes₀ boxes ranges₀ ranges₀
   unfolding filled
   built-none z = by ss (a .count) (a .inSpans) (a .inBoxes)
@@ -75,11 +78,13 @@ module _ (ss : List Span) (r : ℕ) (spans₀ spans : List ℕ) (boxes₀ boxes 
         let n = a .count in
         omega arith
 
-    pub grid-is : (extent : Aabb) (g : Grid) → extent ≡ extentOf (boxIn boxes 0) (boxList boxes (r - 1) 1) → g ≡ gridOf extent r → g ≡ gridFor ss
+    pub grid-is : (extent : Aabb) (g : Grid) → extent ≡ extentOf (boxIn boxes 0) (boxList boxes (r - 1) 1) → g ≡ gridOf extent r
+        → g ≡ gridFor ss
     unfolding gridFor
     grid-is extent g e h = by ss (a .count) (a .inBoxes) (room .inBoxes)
       where
-        by : (ts : List Span) → r ≡ 0 + length ts → boxes ≡ filled spanBox ts 0 boxes₀ → 4 * (0 + length ts) ≤ length boxes₀ → g ≡ gridFor ts
+        by : (ts : List Span) → r ≡ 0 + length ts → boxes ≡ filled spanBox ts 0 boxes₀ → 4 * (0 + length ts) ≤ length boxes₀
+            → g ≡ gridFor ts
         by [] n b l = absurd (omega arith)
         by (t ∷ ts) n b l =
             let count : r ≡ suc (length ts) = omega arith in
@@ -160,10 +165,13 @@ module _ (lanes : List ℕ) (points : List Float) (table : List Bool) (n : ℕ) 
   own-lanes : (k row : ℕ) → row + k ≡ n → Each Own (driving table (lanesFrom lanes points k row))
   unfolding driving lanesFrom spansOf
   own-lanes zero row e = end
-  own-lanes (suc k) row e = by (drives table (laneAt lanes points row)) (own-cut row (omega arith) (spanCount (laneAt lanes points row)) 0 (omega arith)) (own-lanes k (suc row) (omega arith))
+  own-lanes (suc k) row e =
+      by (drives table (laneAt lanes points row)) (own-cut row (omega arith) (spanCount (laneAt lanes points row)) 0 (omega arith))
+      (own-lanes k (suc row) (omega arith))
     where
       by : (b : Bool) → Each Own (spansOf (laneAt lanes points row)) → Each Own (driving table (lanesFrom lanes points k (suc row)))
-          → Each Own (cond b (spansOf (laneAt lanes points row) ++ driving table (lanesFrom lanes points k (suc row))) (driving table (lanesFrom lanes points k (suc row))))
+          → Each Own (cond b (spansOf (laneAt lanes points row) ++ driving table (lanesFrom lanes points k (suc row)))
+          (driving table (lanesFrom lanes points k (suc row))))
       by true here rest = each-append here rest
       by false here rest = rest
 
@@ -226,7 +234,8 @@ module _ (lanes : List ℕ) (points : List Float) (table : List Bool) (n : ℕ) 
     range-at : (i c m : ℕ) → i < length ss → c < 4 → m ≡ 4 * i + c → getD ranges m 0 ≡ getD (rangeRow (gridFor ss) (boxIn boxes i)) c 0
     range-at i c m l h e =
         let k = boxes-length ss in
-        entry (rangeRow (gridFor ss)) 4 (λ v. refl) (boxesOf ss) ranges₀ ranges (noSpan .box) 0 (b .inRanges) (omega arith) i c m (omega arith) h e
+        entry (rangeRow (gridFor ss)) 4 (λ v. refl) (boxesOf ss) ranges₀ ranges (noSpan .box) 0 (b .inRanges) (omega arith) i c m
+        (omega arith) h e
         ∙ ap (λ (v : Aabb). getD (rangeRow (gridFor ss) v) c 0) (boxes-at ss i ∙ sym (box-at i l))
 
     module _ (cumulative : List Float) (arcs : Arcs lanes points cumulative n) where

@@ -22,9 +22,10 @@ use Rattle.network.specs.declared.LaneIndex.{LaneIndex}
 use Rattle.network.specs.declared.Nearest.{Nearest}
 use Rattle.network.specs.declared.Nearest.the-variants.{None, Found}
 use Rattle.network.specs.Lanes.{Lane, Span}
-use Rattle.network.specs.Nearest.{Item, itemOf, itemsFrom, holds, Best, none, found, ceiling, wins, measured, projected, considered, offered, offeredIn}
-use Rattle.network.specs.Nearest.{visitCell, visitRing, enough, ringsFrom, searched, gridFor, nearestIn, nearestOf}
-use Rattle.network.specs.Tables.{part, firstAt, countAt, laneAt, boxIn, spanIn, spanList, itemIn, itemList, within, Entry, told, bestOf}
+use Rattle.network.specs.Nearest.{Item, itemOf, itemsFrom, holds, Best, none, found, ceiling, wins, measured, projected}
+use Rattle.network.specs.Nearest.{considered, offered, offeredIn, visitCell, visitRing, enough, ringsFrom, searched, gridFor, nearestIn, nearestOf}
+use Rattle.network.specs.Tables.{part, firstAt, countAt, laneAt, boxIn, spanIn, spanList, itemIn, itemList, within, Entry}
+use Rattle.network.specs.Tables.{told, bestOf}
 
 -- ---- a span that is measured
 
@@ -46,7 +47,8 @@ module _ (p : Point) (it : Item) (b : Best) (d : Float) (is : d ≡ dist2 (it .s
   unfolding offered considered
   box-loses e = ap (λ (t : Bool). considered t p it b) (sym e ∙ ap (lt (ceiling b)) is)
 
-  pub box-stays : (q : Projection) (d2 : Float) (r : Best) → lt (ceiling b) d ≡ false → q ≡ projected p (it .span) → d2 ≡ lengthSquared (subOf p (q .point))
+  pub box-stays : (q : Projection) (d2 : Float) (r : Best) → lt (ceiling b) d ≡ false → q ≡ projected p (it .span)
+      → d2 ≡ lengthSquared (subOf p (q .point))
       → r ≡ measured d2 (it .number) (it .span .lane) q b → r ≡ offered true p it b
   unfolding offered considered
   box-stays q d2 r e is-q is-d2 is-r =
@@ -58,9 +60,12 @@ module _ (p : Point) (it : Item) (b : Best) (d : Float) (is : d ≡ dist2 (it .s
 -- ---- a span of the tables
 
 module _ (lanes : List ℕ) (points cumulative : List Float) (spans : List ℕ) (boxes : List Float) (ranges : List ℕ) where
+  abbrev lineOf : ℕ → List Float
+  lineOf row = part points (3 * firstAt lanes row) (3 * countAt lanes row)
+
   pub projected-is : (g : Grid) (i : ℕ) (p : Point) (q : Projection) → Entry lanes points cumulative spans boxes ranges g i
       → (row : ℕ) → row ≡ getD spans (3 * i) 0
-      → q ≡ projectSegments (part points (3 * firstAt lanes row) (3 * countAt lanes row)) (part cumulative (firstAt lanes row) (countAt lanes row)) p
+      → q ≡ projectSegments (lineOf row) (part cumulative (firstAt lanes row) (countAt lanes row)) p
       (getD spans (3 * i + 1) 0) (getD spans (3 * i + 2) 0)
       → q ≡ projected p (spanIn lanes points spans boxes i)
   unfolding projected spanIn laneAt
@@ -68,10 +73,10 @@ module _ (lanes : List ℕ) (points cumulative : List Float) (spans : List ℕ) 
       let some = entry .some in
       let end : getD spans (3 * i + 2) 0 ≡ getD spans (3 * i + 1) 0 + (getD spans (3 * i + 2) 0 - getD spans (3 * i + 1) 0) = omega arith in
       let s = getD spans (3 * i) 0 in
-      let line = part points (3 * firstAt lanes s) (3 * countAt lanes s) in
+      let line = lineOf s in
       let first = getD spans (3 * i + 1) 0 in
       e
-      ∙ ap (λ (n : ℕ). projectSegments (part points (3 * firstAt lanes n) (3 * countAt lanes n)) (part cumulative (firstAt lanes n) (countAt lanes n)) p first (getD spans (3 * i + 2) 0)) is-row
+      ∙ ap (λ (n : ℕ). projectSegments (lineOf n) (part cumulative (firstAt lanes n) (countAt lanes n)) p first (getD spans (3 * i + 2) 0)) is-row
       ∙ ap (λ (cs : List Float). projectSegments line cs p first (getD spans (3 * i + 2) 0)) (entry .line .arcs)
       ∙ ap (λ (n : ℕ). projectSegments line (cumulativeOf line (countAt lanes s)) p first n) end
 
@@ -81,7 +86,8 @@ module _ (lanes : List ℕ) (points cumulative : List Float) (spans : List ℕ) 
   holds-is index i ix iy entry = rw (entry .loX, entry .hiX, entry .loY, entry .hiY) refl
 
   module _ (index : LaneIndex) (p : Point) where
-    pub cell-next : (c : Cell) (left i : ℕ) (b next whole : Best) → 0 < left → next ≡ offeredIn (itemIn lanes points spans boxes index i) p c b
+    pub cell-next : (c : Cell) (left i : ℕ) (b next whole : Best) → 0 < left
+        → next ≡ offeredIn (itemIn lanes points spans boxes index i) p c b
         → visitCell p c (itemList lanes points spans boxes index left i) b ≡ whole
         → visitCell p c (itemList lanes points spans boxes index (left - 1) (i + 1)) next ≡ whole
     unfolding visitCell itemsFrom spanList
@@ -90,7 +96,8 @@ module _ (lanes : List ℕ) (points cumulative : List Float) (spans : List ℕ) 
         let less : suc n - 1 ≡ n = omega arith in
         rw (less, add-one) (ap (visitCell p c (itemList lanes points spans boxes index n (suc i))) is ∙ e)
 
-    pub cell-end : (c : Cell) (left i : ℕ) (b whole : Best) → left ≡ 0 → visitCell p c (itemList lanes points spans boxes index left i) b ≡ whole → b ≡ whole
+    pub cell-end : (c : Cell) (left i : ℕ) (b whole : Best) → left ≡ 0
+        → visitCell p c (itemList lanes points spans boxes index left i) b ≡ whole → b ≡ whole
     unfolding visitCell itemsFrom spanList
     cell-end c zero i b whole z e = e
     cell-end c (suc n) i b whole z e = absurd (omega arith)
@@ -99,14 +106,16 @@ module _ (lanes : List ℕ) (points cumulative : List Float) (spans : List ℕ) 
 
 module _ (p : Point) (its : List Item) where
   pub row-next : (iy ix step end : ℕ) (b next whole : Best) → 0 < step → ix < end → next ≡ visitCell p (record { ix = ix; iy = iy }) its b
-      → visitRing p its (rowCells iy (steps ix step end) []) b ≡ whole → visitRing p its (rowCells iy (steps (ix + step) step end) []) next ≡ whole
+      → visitRing p its (rowCells iy (steps ix step end) []) b ≡ whole
+      → visitRing p its (rowCells iy (steps (ix + step) step end) []) next ≡ whole
   unfolding visitRing rowCells
   row-next iy ix step end b next whole s l is e =
       ap (visitRing p its (rowCells iy (steps (ix + step) step end) [])) is
       ∙ sym (ap (λ (xs : List ℕ). visitRing p its (rowCells iy xs []) b) (steps-next step end ix s l))
       ∙ e
 
-  pub row-end : (iy ix step end : ℕ) (b whole : Best) → end ≤ ix → visitRing p its (rowCells iy (steps ix step end) []) b ≡ whole → b ≡ whole
+  pub row-end : (iy ix step end : ℕ) (b whole : Best) → end ≤ ix → visitRing p its (rowCells iy (steps ix step end) []) b ≡ whole
+      → b ≡ whole
   unfolding visitRing rowCells
   row-end iy ix step end b whole h e = sym (ap (λ (xs : List ℕ). visitRing p its (rowCells iy xs []) b) (steps-over step end ix h)) ∙ e
 
@@ -117,9 +126,11 @@ module _ (p : Point) (its : List Item) where
   row-first iy (x ∷ xs) rest b = row-first iy xs rest (visitCell p (record { ix = x; iy = iy }) its b)
 
   module _ (cx cy r cols end : ℕ) where
-    pub ring-next : (iy : ℕ) (columns : Run) (b next whole : Best) → iy < end → cy ≤ iy + r → iy ≤ cy + r → columns ≡ columnsRun cx cy r cols iy
+    pub ring-next : (iy : ℕ) (columns : Run) (b next whole : Best) → iy < end → cy ≤ iy + r → iy ≤ cy + r
+        → columns ≡ columnsRun cx cy r cols iy
         → next ≡ visitRing p its (rowCells iy (listed columns) []) b
-        → visitRing p its (ringRows cx cy r cols (steps iy 1 end)) b ≡ whole → visitRing p its (ringRows cx cy r cols (steps (iy + 1) 1 end)) next ≡ whole
+        → visitRing p its (ringRows cx cy r cols (steps iy 1 end)) b ≡ whole
+        → visitRing p its (ringRows cx cy r cols (steps (iy + 1) 1 end)) next ≡ whole
     unfolding ringRows
     ring-next iy columns b next whole l low high run is e =
         let rest = ringRows cx cy r cols (steps (iy + 1) 1 end) in
@@ -133,7 +144,8 @@ module _ (p : Point) (its : List Item) where
     unfolding visitRing ringRows
     ring-end iy b whole h e = sym (ap (λ (ys : List ℕ). visitRing p its (ringRows cx cy r cols ys) b) (steps-over 1 end iy h)) ∙ e
 
-  pub ring-whole : (cols rows cx cy r : ℕ) (b : Best) → visitRing p its (ringRows cx cy r cols (listed (nearRun cy r rows))) b ≡ visitRing p its (ringOf cols rows cx cy r) b
+  pub ring-whole : (cols rows cx cy r : ℕ) (b : Best)
+      → visitRing p its (ringRows cx cy r cols (listed (nearRun cy r rows))) b ≡ visitRing p its (ringOf cols rows cx cy r) b
   unfolding ringOf
   ring-whole cols rows cx cy r b = ap (λ (ys : List ℕ). visitRing p its (ringRows cx cy r cols ys) b) (near-listed cy r rows)
 
@@ -167,7 +179,8 @@ module _ (p : Point) (its : List Item) where
       unfolding ringsFrom visitRing
       search-outgrown h e out = by (s .left) (s .all) (s .same)
         where
-          stops : (n : ℕ) (cs : List Cell) → isEmpty cs ≡ true → ringsFrom p g its cx cy n (suc r) (isEmpty cs || enough g (suc r) (visitRing p its cs b)) (visitRing p its cs b) ≡ b
+          stops : (n : ℕ) (cs : List Cell) → isEmpty cs ≡ true
+              → ringsFrom p g its cx cy n (suc r) (isEmpty cs || enough g (suc r) (visitRing p its cs b)) (visitRing p its cs b) ≡ b
           stops zero [] z = refl
           stops (suc n) [] z = refl
           stops n (c ∷ cs) z = let q : _≡_ {A = ℕ} 0 1 = cc in absurd (omega arith)
@@ -175,7 +188,8 @@ module _ (p : Point) (its : List Item) where
           by : (left : ℕ) → r + left ≡ last + 1 → ringsFrom p g its cx cy left r (enough g r b) b ≡ whole → b ≡ whole
           by zero all same = absurd (omega arith)
           by (suc n) all same =
-              sym (stops n (ringOf (g .cols) (g .rows) cx cy r) out) ∙ ap (λ (over : Bool). ringsFrom p g its cx cy (suc n) r over b) (sym e) ∙ same
+              sym (stops n (ringOf (g .cols) (g .rows) cx cy r) out)
+              ∙ ap (λ (over : Bool). ringsFrom p g its cx cy (suc n) r over b) (sym e) ∙ same
 
       pub search-next : (next : Best) → r ≤ last → enough g r b ≡ false → isEmpty (ringOf (g .cols) (g .rows) cx cy r) ≡ false
           → next ≡ visitRing p its (ringOf (g .cols) (g .rows) cx cy r) b → Searching last (r + 1) next
@@ -186,13 +200,14 @@ module _ (p : Point) (its : List Item) where
           by zero all same = absurd (omega arith)
           by (suc n) all same =
               let step : r + 1 ≡ suc r = omega arith in
+              let visited = visitRing p its (ringOf (g .cols) (g .rows) cx cy r) b in
               rw step
               (record {
                 left = n;
                 all = omega arith;
                 same =
                     ap (λ (v : Best). ringsFrom p g its cx cy n (suc r) (enough g (suc r) v) v) is
-                    ∙ ap (λ (empty : Bool). ringsFrom p g its cx cy n (suc r) (empty || enough g (suc r) (visitRing p its (ringOf (g .cols) (g .rows) cx cy r) b)) (visitRing p its (ringOf (g .cols) (g .rows) cx cy r) b)) (sym some)
+                    ∙ ap (λ (empty : Bool). ringsFrom p g its cx cy n (suc r) (empty || enough g (suc r) visited) visited) (sym some)
                     ∙ ap (λ (over : Bool). ringsFrom p g its cx cy (suc n) r over b) (sym e)
                     ∙ same;
               })
@@ -201,7 +216,8 @@ module _ (p : Point) (its : List Item) where
   unfolding enough
   search-start g cx cy last = record { left = last + 1; all = omega arith; same = refl }
 
-pub searched-is : (p : Point) (g : Grid) (ss : List Span) (cx cy last : ℕ) → cx ≡ colOf g (p .x) → cy ≡ rowOf g (p .y) → last ≡ max (g .cols) (g .rows)
+pub searched-is : (p : Point) (g : Grid) (ss : List Span) (cx cy last : ℕ) → cx ≡ colOf g (p .x) → cy ≡ rowOf g (p .y)
+    → last ≡ max (g .cols) (g .rows)
     → ringsFrom p g (itemsFrom g 0 ss) cx cy (last + 1) 0 false none ≡ searched p g ss
 unfolding searched
 searched-is p g ss cx cy last is-cx is-cy is-last =
@@ -230,8 +246,10 @@ module _ (lanes : List ℕ) (points : List Float) (spans : List ℕ) (boxes : Li
   unfolding nearestOf
   not-finite count e = ap (λ (b : Bool). told (cond b (nearestIn p (spanList lanes points spans boxes count 0)) none)) (sym e)
 
-  pub found-nearest : (count : ℕ) (g : Grid) (r : Nearest) → 0 < count → finitePoint p ≡ true → g ≡ gridFor (spanList lanes points spans boxes count 0)
-      → bestOf lanes points r ≡ searched p g (spanList lanes points spans boxes count 0) → r ≡ told (nearestOf (spanList lanes points spans boxes count 0) p)
+  pub found-nearest : (count : ℕ) (g : Grid) (r : Nearest) → 0 < count → finitePoint p ≡ true
+      → g ≡ gridFor (spanList lanes points spans boxes count 0)
+      → bestOf lanes points r ≡ searched p g (spanList lanes points spans boxes count 0)
+      → r ≡ told (nearestOf (spanList lanes points spans boxes count 0) p)
   unfolding nearestOf nearestIn spanList
   found-nearest zero g r h e is-g is-r = absurd (omega arith)
   found-nearest (suc n) g r h e is-g is-r =

@@ -1,5 +1,6 @@
 -- network.rs, `nearest_lane`, over grid.rs, `Grid::nearest`: the nearest span by the walk of the rings. Definitions only.
--- The walk is part of what nearest means: a span is measured only where its box does not lose to the best so far, and the search stops by rings.
+-- The walk is part of what nearest means: a span is measured only where its box does not lose to the best so far, and the search stops
+-- by rings.
 use mathlib.Core.Bool.{Bool, true, false, cond, not, _&&_, _||_}
 use mathlib.Core.List.{List, [], _∷_, map}
 use Prim.Native.Nat.{ℕ, zero, suc, _+_, max}

@@ -64,7 +64,8 @@ pub record Rows (lanes : List ℕ) (points : List Float) (drives : List Bool) (n
 pub record Arcs (lanes : List ℕ) (points cumulative : List Float) (n : ℕ) : Type 0 where
   pub within : (row : ℕ) → row < n → firstAt lanes row + countAt lanes row ≤ length cumulative
   pub each : (row : ℕ) → row < n
-      → part cumulative (firstAt lanes row) (countAt lanes row) ≡ cumulativeOf (part points (3 * firstAt lanes row) (3 * countAt lanes row)) (countAt lanes row)
+      → part cumulative (firstAt lanes row) (countAt lanes row)
+      ≡ cumulativeOf (part points (3 * firstAt lanes row) (3 * countAt lanes row)) (countAt lanes row)
 
 -- ---- tables written front to back: `out` with a row for each x, from entry k on
 
@@ -114,7 +115,8 @@ pub record Room (ss : List Span) (k : ℕ) (spans : List ℕ) (boxes : List Floa
   pub inBoxes : 4 * (k + length ss) ≤ length boxes
 
 -- the index of the spans ss: what is answered, and what the three tables hold then
-pub record Built (ss : List Span) (r : LaneIndex) (spans spans′ : List ℕ) (boxes boxes′ : List Float) (ranges ranges′ : List ℕ) : Type 0 where
+pub record Built (ss : List Span) (r : LaneIndex) (spans spans′ : List ℕ) (boxes boxes′ : List Float)
+    (ranges ranges′ : List ℕ) : Type 0 where
   pub count : r .count ≡ length ss
   pub grid : r .grid ≡ gridFor ss
   pub inSpans : spans′ ≡ filled spanRow ss 0 spans
@@ -128,7 +130,12 @@ unfoldable pub spanIn : List ℕ → List Float → List ℕ → List Float → 
 unfolding laneAt boxIn
 spanIn lanes points spans boxes i =
     let first = getD spans (3 * i + 1) 0 in
-    record { lane = laneAt lanes points (getD spans (3 * i) 0); first = first; count = getD spans (3 * i + 2) 0 - first; box = boxIn boxes i }
+    record {
+      lane = laneAt lanes points (getD spans (3 * i) 0);
+      first = first;
+      count = getD spans (3 * i + 2) 0 - first;
+      box = boxIn boxes i;
+    }
 
 unfoldable pub spanList : List ℕ → List Float → List ℕ → List Float → ℕ → ℕ → List Span
 unfolding spanIn
@@ -144,7 +151,8 @@ itemList lanes points spans boxes index n i = itemsFrom (index .grid) i (spanLis
 -- whether the columns and rows of entry i hold a cell
 unfoldable pub within : List ℕ → ℕ → ℕ → ℕ → Bool
 within ranges i ix iy =
-    leb (getD ranges (4 * i) 0) ix && (leb ix (getD ranges (4 * i + 1) 0) && (leb (getD ranges (4 * i + 2) 0) iy && leb iy (getD ranges (4 * i + 3) 0)))
+    leb (getD ranges (4 * i) 0) ix &&
+    (leb ix (getD ranges (4 * i + 1) 0) && (leb (getD ranges (4 * i + 2) 0) iy && leb iy (getD ranges (4 * i + 3) 0)))
 
 -- a lane that can be projected onto: its points and their arc lengths are in the tables
 pub record Line (lanes : List ℕ) (points cumulative : List Float) (row : ℕ) : Type 0 where
@@ -152,10 +160,12 @@ pub record Line (lanes : List ℕ) (points cumulative : List Float) (row : ℕ) 
   pub two : 2 ≤ countAt lanes row
   pub within : 3 * (firstAt lanes row + countAt lanes row) ≤ length points
   pub arcsWithin : firstAt lanes row + countAt lanes row ≤ length cumulative
-  pub arcs : part cumulative (firstAt lanes row) (countAt lanes row) ≡ cumulativeOf (part points (3 * firstAt lanes row) (3 * countAt lanes row)) (countAt lanes row)
+  pub arcs : part cumulative (firstAt lanes row) (countAt lanes row)
+      ≡ cumulativeOf (part points (3 * firstAt lanes row) (3 * countAt lanes row)) (countAt lanes row)
 
 -- what the query may count on at span i
-pub record Entry (lanes : List ℕ) (points cumulative : List Float) (spans : List ℕ) (boxes : List Float) (ranges : List ℕ) (g : Grid) (i : ℕ) : Type 0 where
+pub record Entry (lanes : List ℕ) (points cumulative : List Float) (spans : List ℕ) (boxes : List Float) (ranges : List ℕ) (g : Grid)
+    (i : ℕ) : Type 0 where
   pub line : Line lanes points cumulative (getD spans (3 * i) 0)
   pub some : getD spans (3 * i + 1) 0 < getD spans (3 * i + 2) 0
   pub last : getD spans (3 * i + 2) 0 < countAt lanes (getD spans (3 * i) 0)
@@ -165,7 +175,8 @@ pub record Entry (lanes : List ℕ) (points cumulative : List Float) (spans : Li
   pub hiY : getD ranges (4 * i + 3) 0 ≡ rowOf g (boxIn boxes i .«max_y»)
 
 -- what it may count on in all
-pub record Index (lanes : List ℕ) (points cumulative : List Float) (spans : List ℕ) (boxes : List Float) (ranges : List ℕ) (index : LaneIndex) : Type 0 where
+pub record Index (lanes : List ℕ) (points cumulative : List Float) (spans : List ℕ) (boxes : List Float) (ranges : List ℕ)
+    (index : LaneIndex) : Type 0 where
   pub spansRoom : 3 * index .count ≤ length spans
   pub boxesRoom : 4 * index .count ≤ length boxes
   pub rangesRoom : 4 * index .count ≤ length ranges

@@ -1,6 +1,6 @@
-// network.rs: the index over the lanes that drive, and the nearest of them. `specs/Lanes.antt` and `specs/Nearest.antt` say what is answered.
-// The lanes stand in the flat tables of the plan: `lanes` (number, type, direction, ends, first point, points), `points` (x y z of each) and
-// `cumulative` (the arc length at each point).
+// network.rs: the index over the lanes that drive, and the nearest of them. `specs/` says what is answered. The lanes stand in the flat
+// tables of the plan: `lanes` (number, type, direction, ends, first point, points), `points` (x y z of each) and `cumulative` (the arc
+// length at each point).
 use coords::Point;
 use geometry::Projection;
 use grid::Aabb;
@@ -18,13 +18,14 @@ ghost use Rattle.grid.specs.Grid.{extentOf, Sides};
 ghost use Rattle.grid.specs.Ring.{listed, rowCells, ringOf, Inside};
 ghost use Rattle.network.specs.Lanes.{around, driving, drivesTable};
 ghost use Rattle.network.specs.Tables.{laneAt, lanesFrom, Row, Rows, filled, boxRow, boxIn, boxList, rangeRow, Added, Room, Built};
-ghost use Rattle.network.specs.Tables.{part, firstAt, countAt, spanList, itemIn, itemList, Line, Index, within, told, bestOf, CeilingIs, WinsIs, EnoughIs, MeasuredIs};
+ghost use Rattle.network.specs.Tables.{part, firstAt, countAt, spanList, itemIn, itemList, Line, Index, within, told, bestOf};
+ghost use Rattle.network.specs.Tables.{CeilingIs, WinsIs, EnoughIs, MeasuredIs};
 ghost use Rattle.network.specs.Nearest.{offered, offeredIn, visitCell, visitRing, searched, gridFor, nearestOf};
 
 // Segments of a lane's centerline per indexed span.
 const SPAN_SEGMENTS: usize = 4;
 
-// The most spans that a plan within its limits has: 256 lanes with 4,096 points in all, at least two each, have (4,096 - 2 * 256) / 4 + 256.
+// The most spans that a plan within its limits has: 256 lanes with 4,096 points in all, two of them or more each.
 pub const MAX_SPANS: usize = 1152;
 
 // Which lane types drive: Driving alone.
@@ -334,7 +335,8 @@ fn project(
     p: Point,
 ) -> Projection
     requires { ⌜ Line (now lanes) (now points) (now cumulative) row × (first < end) × (end < countAt (now lanes) row) ⌝ }
-    ensures { λ r. ⌜ r ≡ projectSegments (part (now (points .entry)) (3 * firstAt (now (lanes .entry)) row) (3 * countAt (now (lanes .entry)) row))
+    ensures { λ r. ⌜ r ≡ projectSegments
+        (part (now (points .entry)) (3 * firstAt (now (lanes .entry)) row) (3 * countAt (now (lanes .entry)) row))
         (part (now (cumulative .entry)) (firstAt (now (lanes .entry)) row) (countAt (now (lanes .entry)) row)) p first end ⌝ }
 {
     let from = lanes[6 * row + 4];
@@ -443,7 +445,8 @@ fn visit_cell(
 ) -> Nearest
     requires { ⌜ Index (now lanes) (now points) (now cumulative) (now spans) (now boxes) (now ranges) index ⌝ }
     ensures { λ r. ⌜ bestOf (now (lanes .entry)) (now (points .entry)) r
-        ≡ visitCell p cell (itemList (now (lanes .entry)) (now (points .entry)) (now (spans .entry)) (now (boxes .entry)) index (index .count) 0)
+        ≡ visitCell p cell
+        (itemList (now (lanes .entry)) (now (points .entry)) (now (spans .entry)) (now (boxes .entry)) index (index .count) 0)
         (bestOf (now (lanes .entry)) (now (points .entry)) best) ⌝ }
 {
     let n = index.count;
@@ -570,7 +573,8 @@ fn search(
 ) -> Nearest
     requires { ⌜ Index (now lanes) (now points) (now cumulative) (now spans) (now boxes) (now ranges) index × (0 < index .count) ⌝ }
     ensures { λ r. ⌜ bestOf (now (lanes .entry)) (now (points .entry)) r
-        ≡ searched p (index .grid) (spanList (now (lanes .entry)) (now (points .entry)) (now (spans .entry)) (now (boxes .entry)) (index .count) 0) ⌝ }
+        ≡ searched p (index .grid)
+        (spanList (now (lanes .entry)) (now (points .entry)) (now (spans .entry)) (now (boxes .entry)) (index .count) 0) ⌝ }
 {
     let g = index.grid;
     let cx = g.col(p.x);
@@ -617,7 +621,8 @@ pub fn nearest_lane(
 ) -> Nearest
     requires { ⌜ Index (now lanes) (now points) (now cumulative) (now spans) (now boxes) (now ranges) index
         × (index .grid ≡ gridFor (spanList (now lanes) (now points) (now spans) (now boxes) (index .count) 0)) ⌝ }
-    ensures { λ r. ⌜ r ≡ told (nearestOf (spanList (now (lanes .entry)) (now (points .entry)) (now (spans .entry)) (now (boxes .entry)) (index .count) 0) p) ⌝ }
+    ensures { λ r. ⌜ r ≡ told (nearestOf
+        (spanList (now (lanes .entry)) (now (points .entry)) (now (spans .entry)) (now (boxes .entry)) (index .count) 0) p) ⌝ }
 {
     if index.count == 0 {
         return Nearest::None;

@@ -20,13 +20,15 @@ module _ (w h : Float) (items : ℕ) where
   target-is : {n t : Float} → n ≡ ofWhole items → t ≡ maxOf (div binary32 n two) one⁺ → t ≡ target
   target-is c e = e ∙ ap (λ (n : Float). maxOf (div binary32 n two) one⁺) c
 
-  wished-is : {x y t s : Float} → x ≡ maxOf w milli → y ≡ maxOf h milli → t ≡ target → s ≡ sqrtOf (div binary32 (mul binary32 x y) t) → s ≡ wished
+  wished-is : {x y t s : Float} → x ≡ maxOf w milli → y ≡ maxOf h milli → t ≡ target → s ≡ sqrtOf (div binary32 (mul binary32 x y) t)
+      → s ≡ wished
   wished-is {x} {y} {t} a b e r =
       r ∙ ap (λ (v : Float). sqrtOf (div binary32 (mul binary32 v y) t)) a
       ∙ ap (λ (v : Float). sqrtOf (div binary32 (mul binary32 (maxOf w milli) v) t)) b
       ∙ ap (λ (v : Float). sqrtOf (div binary32 (mul binary32 (maxOf w milli) (maxOf h milli)) v)) e
 
-  cell-is : {s larger most r : Float} → s ≡ wished → larger ≡ maxOf w h → most ≡ maxOf s (div binary32 larger maxDim) → r ≡ maxOf most milli → r ≡ firstCell w h items
+  cell-is : {s larger most r : Float} → s ≡ wished → larger ≡ maxOf w h → most ≡ maxOf s (div binary32 larger maxDim)
+      → r ≡ maxOf most milli → r ≡ firstCell w h items
   unfolding firstCell
   cell-is {s} e l m r =
       r ∙ ap (λ (v : Float). maxOf v milli)
@@ -62,7 +64,9 @@ returns c =
     let counted = rooted .before .before .before .before in
     let a = counted .before .args in
     let t = target-is (a .w) (a .h) (a .items) (counted .nearest-usize-to-f32 .ensures) (rooted .before .before .before .max .ensures) in
-    let s = wished-is (a .w) (a .h) (a .items) (rooted .before .before .max2 .ensures) (rooted .before .max3 .ensures) t (rooted .sqrt .ensures) in
+    let s =
+    wished-is (a .w) (a .h) (a .items) (rooted .before .before .max2 .ensures) (rooted .before .max3 .ensures) t
+    (rooted .sqrt .ensures) in
     cell-is (a .w) (a .h) (a .items) s (c .before .before .max4 .ensures) (c .before .max5 .ensures) (c .max6 .ensures)
 
 pub first-cell-spec : {M : Type 1} → statement M

@@ -8,7 +8,8 @@ use borrow.Author.Needs.{needs}
 use Rattle.grid.proofs.near.Statement.{statement}
 use Rattle.grid.proofs.near.Tie as tie
 
-run-is : (c r n first end : ℕ) → first ≡ c - r → end ≡ min n (c + r + 1) → _≡_ {A = Run} (record { first = first; end = end; step = 1 }) (nearRun c r n)
+run-is : (c r n first end : ℕ) → first ≡ c - r → end ≡ min n (c + r + 1)
+    → _≡_ {A = Run} (record { first = first; end = end; step = 1 }) (nearRun c r n)
 run-is c r n first end is-first is-end = cc
 
 add-min : tie.Need-add-min

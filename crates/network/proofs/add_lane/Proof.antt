@@ -1,3 +1,4 @@
+-- `add_lane` writes one span a turn, from segment 0 on in steps of 4; `Cutting` says where it stands.
 use mathlib.Core.List.{List}
 use lib.Ieee.{Float}
 use borrow.Author.Tests.{not-true, not-false}
@@ -5,7 +6,6 @@ use Rattle.coords.specs.Coords.{zero⁺}
 use Rattle.grid.specs.declared.Aabb.{Aabb}
 use Rattle.grid.specs.Grid.{padded}
 use Rattle.network.specs.Lanes.{around}
--- `add_lane` writes one span a turn, from segment 0 on in steps of 4; `Cutting` says where it stands.
 use mathlib.Core.Path.{_≡_, refl, sym, ap, _∙_}
 use Prim.Native.Nat.{ℕ, _+_, _-_, _*_, _<_, _≤_}
 use native.Mathlib.Omega.{arith}
@@ -16,7 +16,8 @@ use Rattle.network.proofs.add_lane.Statement.{statement}
 use Rattle.network.proofs.add_lane.Tie as tie
 
 abbrev Inv-loop : tie.InvT-loop
-Inv-loop lanes points drives row k spans₀ boxes₀ kind from count line first₀ at₀ spans boxes first at = Cutting (laneAt lanes points row) k spans₀ boxes₀ at first spans boxes
+Inv-loop lanes points drives row k spans₀ boxes₀ kind from count line first₀ at₀ spans boxes first at =
+    Cutting (laneAt lanes points row) k spans₀ boxes₀ at first spans boxes
 
 abbrev μ-loop : tie.MeasureT-loop
 μ-loop lanes points drives row k spans₀ boxes₀ kind from count line first₀ at₀ spans boxes first at = count - first
@@ -102,12 +103,18 @@ min-requires c κs = omega arith
 
 write-span-requires : tie.Need-write-span-requires Inv-loop μ-loop
 unfolding laneAt
-write-span-requires c κs = cut-room _ _ _ _ (c .before .before .before .loop .inv) _ (not-false _ (c .before .before .before .before .before .before .before .if1 .left)) (c .before .before .before .before .before .before .before .before .before .before .before .before .before .before .before .pre .1) (c .before .before .loop-test .taken) .0
+write-span-requires c κs =
+    let top = c .before .before .before in
+    let start = top .before .before .before .before .before .before .before .before .before .before .before .before in
+    cut-room _ _ _ _ (top .loop .inv) _ (not-false _ (top .before .before .before .before .if1 .left)) (start .pre .1)
+    (c .before .before .loop-test .taken) .0
 
 around-requires : tie.Need-around-requires Inv-loop μ-loop
 around-requires c κs =
-    let a = c .before .before .before .before .before .before .before .before .before .before .before .before .before .before .before .before .before .before .before .args in
-    let row = c .before .before .before .before .before .before .before .before .before .before .before .before .before .before .before .before .before .before .before .pre .0 in
+    let back = c .before .before .before .before .before .before .before .before .before in
+    let start = back .before .before .before .before .before .before .before .before .before .before in
+    let a = start .args in
+    let row = start .pre .0 in
     let n = part-length (a .points .now) (3 * firstAt (a .lanes .now) (a .row)) (3 * countAt (a .lanes .now) (a .row)) (omega arith) in
     let e = c .before .before .before .before .before .min .ensures in
     (omega arith, omega arith)
@@ -117,14 +124,22 @@ padded-requires c κs = omega arith
 
 write-box-requires : tie.Need-write-box-requires Inv-loop μ-loop
 unfolding laneAt
-write-box-requires c κs = cut-room _ _ _ _ (c .before .before .before .before .before .before .before .before .before .loop .inv) _ (not-false _ (c .before .before .before .before .before .before .before .before .before .before .before .before .before .if1 .left)) (c .before .before .before .before .before .before .before .before .before .before .before .before .before .before .before .before .before .before .before .before .before .pre .1) (c .before .before .before .before .before .before .before .before .loop-test .taken) .1
+write-box-requires c κs =
+    let top = c .before .before .before .before .before .before .before .before .before in
+    let start = top .before .before .before .before .before .before .before .before .before .before .before .before in
+    cut-room _ _ _ _ (top .loop .inv) _ (not-false _ (top .before .before .before .before .if1 .left)) (start .pre .1)
+    (c .before .before .before .before .before .before .before .before .loop-test .taken) .1
 
 add-at : tie.Need-add-at Inv-loop μ-loop
 unfolding laneAt
 add-at c =
-    let room = cut-room _ _ _ _ (c .before .before .before .before .before .before .before .before .before .before .before .before .loop .inv) _ (not-false _ (c .before .before .before .before .before .before .before .before .before .before .before .before .before .before .before .before .if1 .left)) (c .before .before .before .before .before .before .before .before .before .before .before .before .before .before .before .before .before .before .before .before .before .before .before .before .pre .1) (c .before .before .before .before .before .before .before .before .before .before .before .loop-test .taken) in
-    let length = c .before .before .before .before .before .before .before .before .before .before .before .before .loop .inv .spans-length in
-    let good = c .before .before .before .before .before .before .before .before .before .before .before .before .before .before .before .before .before .before .before .before .before .before .before .before .good in
+    let top = c .before .before .before .before .before .before .before .before .before .before .before .before in
+    let start = top .before .before .before .before .before .before .before .before .before .before .before .before in
+    let room =
+    cut-room _ _ _ _ (top .loop .inv) _ (not-false _ (top .before .before .before .before .if1 .left)) (start .pre .1)
+    (c .before .before .before .before .before .before .before .before .before .before .before .loop-test .taken) in
+    let length = top .loop .inv .spans-length in
+    let good = start .good in
     omega arith
 
 loop-less : tie.Need-loop-less Inv-loop μ-loop
@@ -133,14 +148,21 @@ loop-less c = omega arith
 loop-again : tie.Need-loop-again Inv-loop μ-loop
 unfolding laneAt
 loop-again c =
-    let a = c .before .before .before .before .before .before .before .before .before .before .before .before .before .before .before .before .before .before .before .before .before .before .before .before .args in
-    let l = c .before .before .before .before .before .before .before .before .before .before .before .before .loop in
+    let top = c .before .before .before .before .before .before .before .before .before .before .before .before in
+    let cut = c .before .before .before .before .before .before .before .before .before .before in
+    let start = top .before .before .before .before .before .before .before .before .before .before .before .before in
+    let a = start .args in
+    let l = top .loop in
     let from = 3 * firstAt (a .lanes .now) (a .row) in
     let same = part-is (a .points .now) from (3 * countAt (a .lanes .now) (a .row)) in
     let box =
     c .before .before .before .padded .ensures
-    ∙ ap (padded zero⁺) (c .before .before .before .before .around .ensures ∙ ap (λ (line : List Float). around line (l .first) (c .before .before .before .before .before .before .before .before .before .before .min .result - l .first)) same) in
-    cut-next _ _ _ _ (l .inv) (c .before .before .before .before .before .before .before .before .before .before .before .loop-test .taken) _ (c .before .before .before .before .before .before .before .before .before .before .min .ensures) _ _ _ box (c .before .before .before .before .before .before .before .before .write-span .ensures) (c .before .before .write-box .ensures)
+    ∙ ap (padded zero⁺)
+    (c .before .before .before .before .around .ensures ∙ ap (λ (line : List Float). around line (l .first) (cut .min .result - l .first)) same) in
+    cut-next _ _ _ _ (l .inv)
+    (cut .before .loop-test .taken) _
+    (cut .min .ensures) _ _ _ box
+    (c .before .before .before .before .before .before .before .before .write-span .ensures) (c .before .before .write-box .ensures)
 
 same-length : tie.Need-same-length Inv-loop μ-loop
 same-length c = c .before .loop .inv .spans-length
@@ -150,7 +172,8 @@ same-length-2 c = c .before .loop .inv .boxes-length
 
 returns-2 : tie.Need-returns-2 Inv-loop μ-loop
 unfolding laneAt
-returns-2 c = cut-end _ _ _ _ (c .before .loop .inv) _ (not-false _ (c .before .before .before .before .before .if1 .left)) (c .loop-test .left)
+returns-2 c =
+    cut-end _ _ _ _ (c .before .loop .inv) _ (not-false _ (c .before .before .before .before .before .if1 .left)) (c .loop-test .left)
 
 pub add-lane-spec : {M : Type 1} → statement M
 add-lane-spec =

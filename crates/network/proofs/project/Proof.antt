@@ -76,7 +76,8 @@ project-segments-requires c κs = search needs
 
 returns : tie.Need-returns
 returns c =
-    let a = c .before .before .before .before .before .before .before .before .args in
+    let start = c .before .before .before .before .before .before .before .before in
+    let a = start .args in
     let from = firstAt (a .lanes .now) (a .row) in
     let count = countAt (a .lanes .now) (a .row) in
     let arcs = take (from + count - from) (drop from (a .cumulative .now)) in

@@ -18,12 +18,15 @@ abbrev μ-loop : tie.MeasureT-loop
 
 loop-holds : tie.Need-loop-holds Inv-loop μ-loop
 loop-holds c =
-    let n = c .before .before .before .before .before .before .args .index .count in
+    let start = c .before .before .before .before .before .before in
+    let n = start .args .index .count in
     let e : n - 0 ≡ n = omega arith in
     (omega arith, rw e refl)
 
 offer-requires : tie.Need-offer-requires Inv-loop μ-loop
-offer-requires c κs = (c .before .before .before .before .before .before .before .before .pre, c .loop-test .taken)
+offer-requires c κs =
+    let start = c .before .before .before .before .before .before .before .before in
+    (start .pre, c .loop-test .taken)
 
 add-i : tie.Need-add-i Inv-loop μ-loop
 add-i c = omega arith
@@ -33,8 +36,10 @@ loop-less c = omega arith
 
 loop-again : tie.Need-loop-again Inv-loop μ-loop
 loop-again c =
-    let l = c .before .before .loop in
-    let a = c .before .before .before .before .before .before .before .before .before .args in
+    let top = c .before .before in
+    let start = top .before .before .before .before .before .before .before in
+    let l = top .loop in
+    let a = start .args in
     let n = a .index .count in
     let less : n - (l .i + 1) ≡ n - l .i - 1 = omega arith in (
       omega arith,
@@ -45,9 +50,11 @@ loop-again c =
 
 returns : tie.Need-returns Inv-loop μ-loop
 returns c =
+    let start = c .before .before .before .before .before .before .before .before in
     let l = c .before .loop in
-    let a = c .before .before .before .before .before .before .before .before .args in
-    cell-end (a .lanes .now) (a .points .now) (a .cumulative .now) (a .spans .now) (a .boxes .now) (a .ranges .now) (a .index) (a .p) (a .cell)
+    let a = start .args in
+    cell-end (a .lanes .now) (a .points .now) (a .cumulative .now) (a .spans .now) (a .boxes .now) (a .ranges .now) (a .index) (a .p)
+    (a .cell)
     (a .index .count - l .i) (l .i) (bestOf (a .lanes .now) (a .points .now) (l .b)) _ (omega arith) (l .inv .1)
 
 pub visit-cell-spec : {M : Type 1} → statement M

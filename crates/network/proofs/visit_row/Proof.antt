@@ -22,7 +22,9 @@ loop-holds : tie.Need-loop-holds Inv-loop μ-loop
 loop-holds c = refl
 
 visit-cell-requires : tie.Need-visit-cell-requires Inv-loop μ-loop
-visit-cell-requires c κs = c .before .before .before .before .before .before .before .before .pre .0
+visit-cell-requires c κs =
+    let start = c .before .before .before .before .before .before .before .before in
+    start .pre .0
 
 add-ix : tie.Need-add-ix Inv-loop μ-loop
 add-ix c = omega arith
@@ -32,16 +34,21 @@ loop-less c = omega arith
 
 loop-again : tie.Need-loop-again Inv-loop μ-loop
 loop-again c =
-    let l = c .before .before .loop in
-    let a = c .before .before .before .before .before .before .before .before .before .args in
-    row-next (a .p) (itemList (a .lanes .now) (a .points .now) (a .spans .now) (a .boxes .now) (a .index) (a .index .count) 0) (a .iy) (l .ix) (a .columns .step) (a .columns .end)
-    (bestOf (a .lanes .now) (a .points .now) (l .b)) _ _ (c .before .before .before .before .before .before .before .before .before .pre .1) (c .before .loop-test .taken) (c .visit-cell .ensures) (l .inv)
+    let top = c .before .before in
+    let start = top .before .before .before .before .before .before .before in
+    let l = top .loop in
+    let a = start .args in
+    row-next (a .p) (itemList (a .lanes .now) (a .points .now) (a .spans .now) (a .boxes .now) (a .index) (a .index .count) 0) (a .iy)
+    (l .ix) (a .columns .step) (a .columns .end)
+    (bestOf (a .lanes .now) (a .points .now) (l .b)) _ _ (start .pre .1) (c .before .loop-test .taken) (c .visit-cell .ensures) (l .inv)
 
 returns : tie.Need-returns Inv-loop μ-loop
 returns c =
+    let start = c .before .before .before .before .before .before .before .before in
     let l = c .before .loop in
-    let a = c .before .before .before .before .before .before .before .before .args in
-    row-end (a .p) (itemList (a .lanes .now) (a .points .now) (a .spans .now) (a .boxes .now) (a .index) (a .index .count) 0) (a .iy) (l .ix) (a .columns .step) (a .columns .end)
+    let a = start .args in
+    row-end (a .p) (itemList (a .lanes .now) (a .points .now) (a .spans .now) (a .boxes .now) (a .index) (a .index .count) 0) (a .iy)
+    (l .ix) (a .columns .step) (a .columns .end)
     (bestOf (a .lanes .now) (a .points .now) (l .b)) _ (c .loop-test .left) (l .inv)
 
 pub visit-row-spec : {M : Type 1} → statement M

@@ -1,6 +1,6 @@
+-- `write_box` writes the four entries in order.
 use Prim.Native.Nat.{_*_}
 use Rattle.network.proofs.Filled.{sets-four}
--- `write_box` writes the four entries in order.
 use native.Mathlib.Omega.{arith}
 use lib.ListN.{length-set}
 use borrow.Author.Needs.{needs}

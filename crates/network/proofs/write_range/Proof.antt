@@ -1,6 +1,6 @@
+-- `write_range` writes the two columns and the two rows in order.
 use Prim.Native.Nat.{_*_}
 use Rattle.grid.specs.Grid.{colOf, rowOf}
--- `write_range` writes the two columns and the two rows in order.
 use native.Mathlib.Omega.{arith}
 use lib.ListN.{length-set}
 use Rattle.network.proofs.Filled.{sets-four}
@@ -61,9 +61,11 @@ same-length c = search needs
 
 returns : tie.Need-returns
 returns c =
-    let a = c .before .before .before .before .before .args in
+    let start = c .before .before .before .before .before in
+    let a = start .args in
     rw (c .before .before .before .col .ensures, c .before .before .col2 .ensures, c .before .row .ensures, c .row2 .ensures)
-    (sets-four (a .ranges .now) (4 * a .k) (colOf (a .g) (a .b .«min_x»)) (colOf (a .g) (a .b .«max_x»)) (rowOf (a .g) (a .b .«min_y»)) (rowOf (a .g) (a .b .«max_y»)))
+    (sets-four (a .ranges .now) (4 * a .k) (colOf (a .g) (a .b .«min_x»)) (colOf (a .g) (a .b .«max_x»))
+    (rowOf (a .g) (a .b .«min_y»)) (rowOf (a .g) (a .b .«max_y»)))
 
 pub write-range-spec : {M : Type 1} → statement M
 write-range-spec =

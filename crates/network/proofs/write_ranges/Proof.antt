@@ -1,10 +1,10 @@
+-- `write_ranges` writes one row a turn: what is left to write makes of the table now what all make of the first.
 use mathlib.Core.Path.{_≡_, refl, _∙_, ap, sym}
 use lib.Ieee.{Float}
 use lib.Seq.{sets, length-sets}
 use Rattle.grid.specs.declared.Aabb.{Aabb}
 use Rattle.grid.specs.declared.Grid.{Grid}
 use Rattle.network.proofs.Filled.{filled-next}
--- `write_ranges` writes one row a turn: what is left to write makes of the table now what all make of the first.
 use mathlib.Core.List.{List}
 use Prim.Native.Nat.{ℕ, zero, suc, _+_, _-_, _*_, _<_, _≤_}
 use native.Mathlib.Omega.{arith}
@@ -15,7 +15,8 @@ use Rattle.network.proofs.write_ranges.Tie as tie
 
 module _ (boxes : List Float) (g : Grid) (whole : List ℕ) where
   next-row : (left i : ℕ) (ranges next : List ℕ) (b : Aabb) → 0 < left → b ≡ boxIn boxes i → next ≡ sets ranges (4 * i) (rangeRow g b)
-      → filled (rangeRow g) (boxList boxes left i) (4 * i) ranges ≡ whole → filled (rangeRow g) (boxList boxes (left - 1) (i + 1)) (4 * (i + 1)) next ≡ whole
+      → filled (rangeRow g) (boxList boxes left i) (4 * i) ranges ≡ whole
+      → filled (rangeRow g) (boxList boxes (left - 1) (i + 1)) (4 * (i + 1)) next ≡ whole
   unfolding boxList
   next-row zero i ranges next b h is-b is-next e = absurd (omega arith)
   next-row (suc n) i ranges next b h is-b is-next e =
@@ -23,7 +24,8 @@ module _ (boxes : List Float) (g : Grid) (whole : List ℕ) where
       let s : i + 1 ≡ suc i = omega arith in
       ap (λ (m : ℕ). filled (rangeRow g) (boxList boxes m (i + 1)) (4 * (i + 1)) next) l
       ∙ ap (λ (m : ℕ). filled (rangeRow g) (boxList boxes n m) (4 * (i + 1)) next) s
-      ∙ ap (filled (rangeRow g) (boxList boxes n (suc i)) (4 * (i + 1))) (is-next ∙ ap (λ (v : Aabb). sets ranges (4 * i) (rangeRow g v)) is-b)
+      ∙ ap (filled (rangeRow g) (boxList boxes n (suc i)) (4 * (i + 1)))
+      (is-next ∙ ap (λ (v : Aabb). sets ranges (4 * i) (rangeRow g v)) is-b)
       ∙ sym (filled-next (rangeRow g) 4 (λ x. refl) (boxIn boxes i) (boxList boxes n (suc i)) i ranges)
       ∙ e
 
@@ -34,7 +36,8 @@ module _ (boxes : List Float) (g : Grid) (whole : List ℕ) where
 
 abbrev Inv-loop : tie.InvT-loop
 Inv-loop boxes n g ranges₀ i₀ ranges i =
-    (i ≤ n) × (length ranges ≡ length ranges₀) × (filled (rangeRow g) (boxList boxes (n - i) i) (4 * i) ranges ≡ filled (rangeRow g) (boxList boxes n 0) 0 ranges₀)
+    (i ≤ n) × (length ranges ≡ length ranges₀) ×
+    (filled (rangeRow g) (boxList boxes (n - i) i) (4 * i) ranges ≡ filled (rangeRow g) (boxList boxes n 0) 0 ranges₀)
 
 abbrev μ-loop : tie.MeasureT-loop
 μ-loop boxes n g ranges₀ i₀ ranges i = n - i
@@ -59,12 +62,17 @@ loop-less c = omega arith
 
 loop-again : tie.Need-loop-again Inv-loop μ-loop
 loop-again c =
-    let l = c .before .before .before .before .before .before .loop in
-    let a = c .before .before .before .before .before .before .before .before .before .args in
+    let top = c .before .before .before .before .before .before in
+    let start = top .before .before .before in
+    let l = top .loop in
+    let a = start .args in
     let less : a .n - (l .i + 1) ≡ a .n - l .i - 1 = omega arith in (
       omega arith,
-      ap length (c .before .before .write-range .ensures) ∙ length-sets (l .ranges) (4 * l .i) (rangeRow (a .g) (c .before .before .before .box-at .result)) ∙ l .inv .1,
-      rw less (next-row (a .boxes .now) (a .g) _ (a .n - l .i) (l .i) (l .ranges) _ _ (omega arith) (c .before .before .before .box-at .ensures) (c .before .before .write-range .ensures) (l .inv .2)),
+      ap length (c .before .before .write-range .ensures)
+          ∙ length-sets (l .ranges) (4 * l .i) (rangeRow (a .g) (c .before .before .before .box-at .result)) ∙ l .inv .1,
+      rw less
+          (next-row (a .boxes .now) (a .g) _ (a .n - l .i) (l .i) (l .ranges) _ _ (omega arith) (c .before .before .before .box-at .ensures)
+          (c .before .before .write-range .ensures) (l .inv .2)),
     )
 
 same-length : tie.Need-same-length Inv-loop μ-loop

@@ -6,7 +6,8 @@ use Rattle.network.proofs.write_spans.Statement.{statement}
 use Rattle.network.proofs.write_spans.Tie as tie
 
 abbrev Inv-loop : tie.InvT-loop
-Inv-loop lanes n points drives spans₀ boxes₀ row₀ k₀ spans boxes row k = (row ≤ n) × Adding lanes points drives n spans₀ boxes₀ row k spans boxes
+Inv-loop lanes n points drives spans₀ boxes₀ row₀ k₀ spans boxes row k =
+    (row ≤ n) × Adding lanes points drives n spans₀ boxes₀ row k spans boxes
 
 abbrev μ-loop : tie.MeasureT-loop
 μ-loop lanes n points drives spans₀ boxes₀ row₀ k₀ spans boxes row k = n - row
@@ -15,7 +16,11 @@ loop-holds : tie.Need-loop-holds Inv-loop μ-loop
 loop-holds c = (omega arith, add-start _ _ _ _ _ _)
 
 add-lane-requires : tie.Need-add-lane-requires Inv-loop μ-loop
-add-lane-requires c κs = (c .before .before .before .before .before .before .before .before .before .pre .0 .each (c .before .before .before .loop .row) (c .before .before .loop-test .taken), add-room _ _ _ _ _ _ (c .before .before .before .loop .inv .1) (c .before .before .loop-test .taken) (c .before .before .before .before .before .before .before .before .before .pre .1))
+add-lane-requires c κs =
+    let top = c .before .before .before in
+    let start = top .before .before .before .before .before .before in
+    let taken = c .before .before .loop-test .taken in
+    (start .pre .0 .each (top .loop .row) taken, add-room _ _ _ _ _ _ (top .loop .inv .1) taken (start .pre .1))
 
 add-row : tie.Need-add-row Inv-loop μ-loop
 add-row c = omega arith
@@ -24,7 +29,10 @@ loop-less : tie.Need-loop-less Inv-loop μ-loop
 loop-less c = omega arith
 
 loop-again : tie.Need-loop-again Inv-loop μ-loop
-loop-again c = (omega arith, add-next _ _ _ _ _ _ (c .before .before .before .before .before .before .before .before .loop .inv .1) _ _ _ (c .before .before .before .before .before .before .before .loop-test .taken) (c .before .before .before .before .add-lane .ensures))
+loop-again c =
+    let top = c .before .before .before .before .before .before .before .before in
+    let taken = c .before .before .before .before .before .before .before .loop-test .taken in
+    (omega arith, add-next _ _ _ _ _ _ (top .loop .inv .1) _ _ _ taken (c .before .before .before .before .add-lane .ensures))
 
 same-length : tie.Need-same-length Inv-loop μ-loop
 same-length c = c .before .loop .inv .1 .spans-length

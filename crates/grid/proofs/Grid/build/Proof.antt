@@ -24,10 +24,12 @@ module _ (extent : Aabb) (items : ℕ) where
   made cell cols rows = record { «min_x» = extent .«min_x»; «min_y» = extent .«min_y»; cell = cell; cols = cols; rows = rows }
 
   cell-is : (cols rows : ℕ) {x y larger cell : Float}
-      → x ≡ ofWhole cols → y ≡ ofWhole rows → larger ≡ maxOf (div binary32 w x) (div binary32 h y) → cell ≡ maxOf larger milli → cell ≡ cellOf cols rows
+      → x ≡ ofWhole cols → y ≡ ofWhole rows → larger ≡ maxOf (div binary32 w x) (div binary32 h y) → cell ≡ maxOf larger milli
+      → cell ≡ cellOf cols rows
   cell-is cols rows {x} {y} a b m r =
       r ∙ ap (λ (v : Float). maxOf v milli)
-      (m ∙ ap (λ (v : Float). maxOf (div binary32 w v) (div binary32 h y)) a ∙ ap (λ (v : Float). maxOf (div binary32 w (ofWhole cols)) (div binary32 h v)) b)
+      (m ∙ ap (λ (v : Float). maxOf (div binary32 w v) (div binary32 h y)) a
+      ∙ ap (λ (v : Float). maxOf (div binary32 w (ofWhole cols)) (div binary32 h v)) b)
 
   grid-is : {first cell : Float} {cols rows : ℕ}
       → first ≡ firstCell w h items → cols ≡ side (div binary32 w first) → rows ≡ side (div binary32 h first) → cell ≡ cellOf cols rows
@@ -66,7 +68,8 @@ returns c =
     let sized = c .before .before .before .before in
     let a = sized .before .before .before .before .before .args in
     let cell =
-    cell-is (a .extent) (a .items) _ _ (c .before .before .before .nearest-usize-to-f32 .ensures) (c .before .before .nearest-usize-to-f322 .ensures)
+    cell-is (a .extent) (a .items) _ _ (c .before .before .before .nearest-usize-to-f32 .ensures)
+    (c .before .before .nearest-usize-to-f322 .ensures)
     (c .before .max .ensures) (c .max2 .ensures) in
     grid-is (a .extent) (a .items) (sized .before .before .first-cell .ensures) (sized .before .side .ensures) (sized .side2 .ensures) cell
 

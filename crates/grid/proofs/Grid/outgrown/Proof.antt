@@ -1,6 +1,6 @@
+-- `Grid::outgrown` tests the four sides in turn: a ring has a cell of the grid exactly when one of its sides has.
 use mathlib.Core.Path.{sym}
 use native.Mathlib.Omega.{arith}
--- `Grid::outgrown` tests the four sides in turn: a ring has a cell of the grid exactly when one of its sides has.
 use Rattle.grid.proofs.Rings.{left-inside, right-inside, bottom-inside, top-decides}
 use borrow.Author.Needs.{needs}
 use Rattle.grid.proofs.Grid.outgrown.Statement.{statement}
