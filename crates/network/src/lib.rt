@@ -283,7 +283,7 @@ fn ceiling(best: Nearest) -> f32
     }
 }
 
-// Whether (d2, item) comes before the best so far. A NaN never does.
+// Whether (d2, item) comes before the best so far; anything does before there is one.
 fn wins(d2: f32, item: usize, best: Nearest) -> bool
     ensures { λ r. ⌜ WinsIs d2 item best r ⌝ }
 {
