@@ -11,7 +11,7 @@ use Rattle.plan_format.specs.Laws.{or-fst, or-snd}
 use Rattle.plan_format.specs.Plan.{Decoded, Plan, accepted, decode, laneCount, planOf, refused, sectionCount}
 use Rattle.plan_format.specs.Reading.{Answers, opened, readOf, short, tablesOf}
 use Rattle.plan_format.specs.Records.{Link, laneAt, linkAt, placeAt, sectionAt}
-use Rattle.plan_format.specs.Tables.{Tables, boundRow, endRow, fanRow, group, laneRow, linkCount, loaded, over, placeRow, pointRow}
+use Rattle.plan_format.specs.Tables.{Tables, boundRow, endRow, fanRow, group, laneRow, linkCount, loaded, over, placeRow, planRows, pointRow}
 use Rattle.plan_format.specs.Tables.{rows, rowsFrom, sectionRow, stationRow, tables}
 use Rattle.plan_format.specs.declared.Counts.{Counts}
 use Rattle.plan_format.specs.declared.Read.{Read}
@@ -129,7 +129,7 @@ module _ (s : List ℕ) (c : Counts) (h m : List ℕ) (K : Loadable s c h m) whe
       → stations ≡ over (rows stationRow (map (sectionAt s) section-starts)) (t .stations)
       → places ≡ over (rows (placeRow (planOf s (listed lane-starts [] section-starts []))) (map (placeAt s) place-starts)) (t .places)
       → Loads s t (tables lanes points ends fans links sections bounds stations places)
-  unfolding loaded
+  unfolding loaded planRows
   loaded-by t lanes points ends fans links sections bounds stations places e₁ e₂ e₃ e₄ e₅ e₆ e₇ e₈ p d =
       let a = K .standing .starts in
       let same : p ≡ planOf s a = (let z = sym d ∙ K .plan in cc) in

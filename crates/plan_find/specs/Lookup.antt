@@ -1,4 +1,4 @@
--- A lookup in the tables of an accepted plan finds what the plan has.
+-- A lookup in the rows of an accepted plan finds what the plan has.
 use mathlib.Core.Bool.{Bool, false, true, _&&_}
 use mathlib.Core.List.{List, [], map, _∷_}
 use mathlib.Core.Path.{refl, _≡_}
@@ -13,7 +13,7 @@ use Rattle.plan_find.specs.FirstRow.{firstRow, isLane, isSection}
 use Rattle.plan_format.specs.Laws.{getD-map-in}
 use Rattle.plan_format.specs.Plan.{Plan, indexOf, laneOf, numberOf, sectionKey, sectionOf}
 use Rattle.plan_format.specs.Records.{Lane, Section}
-use Rattle.plan_format.specs.Tables.{Tables, loaded}
+use Rattle.plan_format.specs.Tables.{planRows}
 
 -- a search by a test that says of each row whether a list has n there
 row-index : (test : ℕ → Bool) (n : ℕ) (xs : List ℕ) (i d : ℕ) → ((j : ℕ) → j < length xs → test (i + j) ≡ eqb (getD xs j 0) n)
@@ -44,29 +44,29 @@ pair-test a b c d ha hb hc hd = go (eqb a c) (eqb b d) (eqb (a * 65536 + b) (c *
         let z = eqb-true (a * 65536 + b) (c * 65536 + d) r in
         absurd (eqb-false a c p (omega arith))
 
-module _ (p : Plan) (A : Accepted p) (t : Tables) (e : Lane) (x : Section) where
+module _ (p : Plan) (A : Accepted p) (e : Lane) (x : Section) where
   -- the lane with the number n has the row that the plan gives it
-  pub find-lane : (n : ℕ) → firstRow (isLane (loaded p t .lanes) n) (length (p .lanes)) 0 256 ≡ laneOf p n
+  pub find-lane : (n : ℕ) → firstRow (isLane (planRows p .lanes) n) (length (p .lanes)) 0 256 ≡ laneOf p n
   find-lane n =
       rw (← length-map (p .lanes) numberOf)
-      (row-index (isLane (loaded p t .lanes) n) n (map numberOf (p .lanes)) 0 256 number)
+      (row-index (isLane (planRows p .lanes) n) n (map numberOf (p .lanes)) 0 256 number)
     where
       number : (j : ℕ) → j < length (map numberOf (p .lanes))
-          → eqb (getD (loaded p t .lanes) (6 * (0 + j)) 0) n ≡ eqb (getD (map numberOf (p .lanes)) j 0) n
+          → eqb (getD (planRows p .lanes) (6 * (0 + j)) 0) n ≡ eqb (getD (map numberOf (p .lanes)) j 0) n
       number j h =
           let l : j < length (p .lanes) = omega (arith, length-map (p .lanes) numberOf) in
           let z : 6 * (0 + j) ≡ 6 * j + 0 = omega arith in
-          rw (z, lane-entry p A t j 0 e l (omega arith), getD-map-in numberOf (p .lanes) j e 0 l)
+          rw (z, lane-entry p A j 0 e l (omega arith), getD-map-in numberOf (p .lanes) j e 0 l)
 
   -- a road and an index below 65,536, as the records have them, are one key
   pub find-section : (road index : ℕ) → road < 65536 → index < 65536
-      → firstRow (isSection (loaded p t .sections) road index) (length (p .sections)) 0 64 ≡ sectionOf p (road * 65536 + index)
+      → firstRow (isSection (planRows p .sections) road index) (length (p .sections)) 0 64 ≡ sectionOf p (road * 65536 + index)
   find-section road index hr hi =
       rw (← length-map (p .sections) sectionKey)
-      (row-index (isSection (loaded p t .sections) road index) (road * 65536 + index) (map sectionKey (p .sections)) 0 64 key)
+      (row-index (isSection (planRows p .sections) road index) (road * 65536 + index) (map sectionKey (p .sections)) 0 64 key)
     where
       key : (j : ℕ) → j < length (map sectionKey (p .sections))
-          → (eqb (getD (loaded p t .sections) (4 * (0 + j)) 0) road && eqb (getD (loaded p t .sections) (4 * (0 + j) + 1) 0) index)
+          → (eqb (getD (planRows p .sections) (4 * (0 + j)) 0) road && eqb (getD (planRows p .sections) (4 * (0 + j) + 1) 0) index)
           ≡ eqb (getD (map sectionKey (p .sections)) j 0) (road * 65536 + index)
       key j h =
           let l : j < length (p .sections) = omega (arith, length-map (p .sections) sectionKey) in
@@ -77,8 +77,8 @@ module _ (p : Plan) (A : Accepted p) (t : Tables) (e : Lane) (x : Section) where
           rw (
             z,
             y,
-            section-entry p A t j 0 x l (omega arith),
-            section-entry p A t j 1 x l (omega arith),
+            section-entry p A j 0 x l (omega arith),
+            section-entry p A j 1 x l (omega arith),
             getD-map-in sectionKey (p .sections) j x 0 l,
           )
           (pair-test (s .road) (s .index) road index (O .road) (O .index) hr hi)

@@ -4,10 +4,14 @@ use mathlib.Core.Path.{ap, refl, subst, sym, _∙_, _≡_}
 use Prim.Native.Nat.{suc, ℕ, _+_, _<_, _≤_}
 use native.Mathlib.Numerals.{add-one}
 use native.Mathlib.Omega.{arith}
-use lib.ListN.{drop, getD, length, length-append, length-drop, set}
-use lib.Seq.{drop-cons, set-at, sets}
+use lib.ListN.{drop, getD, length, length-append, length-drop, set, take}
+use lib.Seq.{drop-cons, set-at, sets, take-at}
 use Rattle.plan_format.specs.Queries.{whole}
 use Rattle.plan_format.specs.Tables.{over}
+
+-- what was written, cut out again
+pub over-front : {A : Type 0} (xs old : List A) (k : ℕ) → length xs ≡ k → take k (over xs old) ≡ xs
+over-front xs old k e = take-at xs (drop (length xs) old) k e
 
 -- A table that held `old`: its first k entries are written, and what is yet to come completes `whole`.
 pub record Filling (A : Type 0) (old out : List A) (k : ℕ) (rest whole : List A) : Type 0 where

@@ -95,18 +95,33 @@ tables lanes points ends fans links sections bounds stations places =
       places = places;
     }
 
+-- a plan's rows: what its tables hold of it
+unfoldable pub planRows : Plan → Tables
+planRows p =
+    let ns = map numberOf (p .lanes) in
+    record {
+      lanes = rowsFrom laneRow laneCount 0 (p .lanes);
+      points = rows pointRow (p .lanes);
+      ends = rows endRow (p .lanes);
+      fans = rowsFrom (fanRow (p .links) (map placeLane (p .places))) (linkCount (p .links)) 0 ns;
+      links = rows (group ns (p .links)) ns;
+      sections = rowsFrom sectionRow sectionCount 0 (p .sections);
+      bounds = rows boundRow (p .sections);
+      stations = rows stationRow (p .sections);
+      places = rows (placeRow p) (p .places);
+    }
+
 -- the tables that held `t`, with the plan's rows first
 unfoldable pub loaded : Plan → Tables → Tables
 loaded p t =
-    let ns = map numberOf (p .lanes) in
     record {
-      lanes = over (rowsFrom laneRow laneCount 0 (p .lanes)) (t .lanes);
-      points = over (rows pointRow (p .lanes)) (t .points);
-      ends = over (rows endRow (p .lanes)) (t .ends);
-      fans = over (rowsFrom (fanRow (p .links) (map placeLane (p .places))) (linkCount (p .links)) 0 ns) (t .fans);
-      links = over (rows (group ns (p .links)) ns) (t .links);
-      sections = over (rowsFrom sectionRow sectionCount 0 (p .sections)) (t .sections);
-      bounds = over (rows boundRow (p .sections)) (t .bounds);
-      stations = over (rows stationRow (p .sections)) (t .stations);
-      places = over (rows (placeRow p) (p .places)) (t .places);
+      lanes = over (planRows p .lanes) (t .lanes);
+      points = over (planRows p .points) (t .points);
+      ends = over (planRows p .ends) (t .ends);
+      fans = over (planRows p .fans) (t .fans);
+      links = over (planRows p .links) (t .links);
+      sections = over (planRows p .sections) (t .sections);
+      bounds = over (planRows p .bounds) (t .bounds);
+      stations = over (planRows p .stations) (t .stations);
+      places = over (planRows p .places) (t .places);
     }

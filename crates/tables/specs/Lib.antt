@@ -1,0 +1,2 @@
+-- The tables that a public call is lent, and what they hold on return.
+pub mod LaneTables

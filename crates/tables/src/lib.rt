@@ -1,0 +1,1 @@
+// The tables that a public call is lent. Definitions so far: specs/.
