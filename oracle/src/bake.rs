@@ -44,7 +44,8 @@ pub fn bake(plan: &Plan) -> RoadNetwork {
     RoadNetwork::new(lanes).with_roads(bake_roads(plan))
 }
 
-fn bake_lane(plan: &Plan, lane: &LaneRecord) -> Lane {
+/// A lane with its links, as it stands in the network.
+pub fn bake_lane(plan: &Plan, lane: &LaneRecord) -> Lane {
     let linked = |role: u8| -> Vec<LaneId> {
         let links = plan.links.iter().filter(|link| link.from == lane.number && link.role == role);
         links.map(|link| LaneId(usize::from(link.to))).collect()

@@ -3,21 +3,11 @@
 //!
 //! `compare-plan [COUNT [SEED]]`, after `rt staticlib plan_c`.
 
+use compare_common::tables::{Counts, Tables, SIZES};
 use kartsodi_oracle::gen::plans;
 use kartsodi_oracle::reader::{check, scan, Plan};
 use std::hint::black_box;
 use std::time::{Duration, Instant};
-
-#[repr(C)]
-#[derive(Debug, Clone, Copy, PartialEq, Default)]
-struct Counts {
-    lanes: usize,
-    points: usize,
-    links: usize,
-    sections: usize,
-    stations: usize,
-    places: usize,
-}
 
 #[repr(C)]
 #[derive(Debug, Clone, Copy, PartialEq, Default)]
@@ -40,63 +30,6 @@ extern "C" {
         stations: *mut f64, stations_len: usize,
         places: *mut usize, places_len: usize,
     ) -> Read;
-}
-
-/// The nine tables. Floats are compared by their bits, all NaNs as one.
-#[derive(Clone)]
-struct Tables {
-    lanes: Vec<usize>,
-    points: Vec<f32>,
-    ends: Vec<f32>,
-    fans: Vec<usize>,
-    links: Vec<usize>,
-    sections: Vec<usize>,
-    bounds: Vec<f64>,
-    stations: Vec<f64>,
-    places: Vec<usize>,
-}
-
-/// How far the tables are longer than they need be.
-const SPARE: usize = 7;
-const SIZES: [usize; 9] = [1536, 12288, 1536, 1280, 4096, 256, 128, 4096, 768];
-
-impl Tables {
-    /// Tables full of a mark that no plan has.
-    fn marked() -> Self {
-        let [a, b, c, d, e, f, g, h, i] = SIZES.map(|n| n + SPARE);
-        Tables {
-            lanes: vec![usize::MAX; a],
-            points: vec![-77.5; b],
-            ends: vec![-77.5; c],
-            fans: vec![usize::MAX; d],
-            links: vec![usize::MAX; e],
-            sections: vec![usize::MAX; f],
-            bounds: vec![-77.5; g],
-            stations: vec![-77.5; h],
-            places: vec![usize::MAX; i],
-        }
-    }
-
-    fn same(&self, other: &Tables) -> Result<(), &'static str> {
-        let f32s = |a: &[f32], b: &[f32]| a.len() == b.len() && a.iter().zip(b).all(|(x, y)| x.to_bits() == y.to_bits() || x.is_nan() && y.is_nan());
-        let f64s = |a: &[f64], b: &[f64]| a.len() == b.len() && a.iter().zip(b).all(|(x, y)| x.to_bits() == y.to_bits() || x.is_nan() && y.is_nan());
-        for (name, same) in [
-            ("lanes", self.lanes == other.lanes),
-            ("points", f32s(&self.points, &other.points)),
-            ("ends", f32s(&self.ends, &other.ends)),
-            ("fans", self.fans == other.fans),
-            ("links", self.links == other.links),
-            ("sections", self.sections == other.sections),
-            ("bounds", f64s(&self.bounds, &other.bounds)),
-            ("stations", f64s(&self.stations, &other.stations)),
-            ("places", self.places == other.places),
-        ] {
-            if !same {
-                return Err(name);
-            }
-        }
-        Ok(())
-    }
 }
 
 fn read(file: &[u8], side: usize, t: &mut Tables) -> Read {
@@ -129,53 +62,8 @@ fn oracle(file: &[u8], side: usize) -> Result<Plan, u8> {
 
 /// The tables of the oracle's plan, over tables that hold the mark.
 fn expected(plan: &Plan) -> (Counts, Tables) {
-    fn put<T: Copy>(table: &mut [T], at: &mut usize, row: &[T]) {
-        table[*at..*at + row.len()].copy_from_slice(row);
-        *at += row.len();
-    }
     let mut t = Tables::marked();
-    let row_of = |n: u16| plan.lanes.iter().position(|l| l.number == n).unwrap_or(256);
-    let (mut l, mut p, mut e, mut f, mut k) = (0, 0, 0, 0, 0);
-    for lane in &plan.lanes {
-        let ends = usize::from(lane.ends.is_some());
-        put(&mut t.lanes, &mut l, &[lane.number.into(), lane.kind.into(), lane.direction.into(), ends, p / 3, lane.points.len()]);
-        for point in &lane.points {
-            put(&mut t.points, &mut p, point);
-        }
-        let [start, end] = lane.ends.unwrap_or_default();
-        put(&mut t.ends, &mut e, &start);
-        put(&mut t.ends, &mut e, &end);
-        let first = k / 2;
-        let mut sizes = [0; 3];
-        for role in 0..3u8 {
-            for link in plan.links.iter().filter(|x| x.from == lane.number && x.role == role) {
-                put(&mut t.links, &mut k, &[link.to.into(), row_of(link.to)]);
-                sizes[usize::from(role)] += 1;
-            }
-        }
-        let place = plan.places.iter().position(|x| x.lane == lane.number).unwrap_or(256);
-        put(&mut t.fans, &mut f, &[first, sizes[0], sizes[1], sizes[2], place]);
-    }
-    let (mut s, mut b, mut d) = (0, 0, 0);
-    for section in &plan.sections {
-        put(&mut t.sections, &mut s, &[section.road.into(), section.index.into(), d, section.stations.len()]);
-        put(&mut t.bounds, &mut b, &[section.start, section.end]);
-        put(&mut t.stations, &mut d, &section.stations);
-    }
-    let mut o = 0;
-    for place in &plan.places {
-        let section = plan.sections.iter().position(|x| x.road == place.road && x.index == place.index).unwrap_or(64);
-        let raised = (i64::from(place.od_id) + (1 << 31)) as usize;
-        put(&mut t.places, &mut o, &[row_of(place.lane), section, raised]);
-    }
-    let counts = Counts {
-        lanes: plan.lanes.len(),
-        points: p / 3,
-        links: plan.links.len(),
-        sections: plan.sections.len(),
-        stations: d,
-        places: plan.places.len(),
-    };
+    let counts = t.load(plan);
     (counts, t)
 }
 
@@ -204,21 +92,11 @@ fn compare(name: &str, file: &[u8], side: usize, numbers: &mut [usize; 16]) -> b
 /// Number 1: each table shorter by one entry than its limit, whatever the file; nothing is written.
 fn short_tables() -> usize {
     let mut differ = 0;
-    for (k, &size) in SIZES.iter().enumerate() {
+    for (k, &size) in SIZES[..9].iter().enumerate() {
         for less in 0..2 {
             let mut t = Tables::marked();
             let n = size - less;
-            match k {
-                0 => t.lanes.truncate(n),
-                1 => t.points.truncate(n),
-                2 => t.ends.truncate(n),
-                3 => t.fans.truncate(n),
-                4 => t.links.truncate(n),
-                5 => t.sections.truncate(n),
-                6 => t.bounds.truncate(n),
-                7 => t.stations.truncate(n),
-                _ => t.places.truncate(n),
-            }
+            t.cut(k, n);
             let before = t.clone();
             let r = read(&vec![0; 65537], 0, &mut t);
             let number = if less == 1 { 1 } else { 2 };

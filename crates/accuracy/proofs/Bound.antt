@@ -93,13 +93,13 @@ module _ (table : List Bool) (ls : List Lane) (p : Point) (P : Coords p) (spans 
   abbrev lx : Span → ℕ
   lx z = colOf g (z .box .«min_x»)
 
-  abbrev hx : Span → ℕ
+  abbrev pub hx : Span → ℕ
   hx z = colOf g (z .box .«max_x»)
 
   abbrev ly : Span → ℕ
   ly z = rowOf g (z .box .«min_y»)
 
-  abbrev hy : Span → ℕ
+  abbrev pub hy : Span → ℕ
   hy z = rowOf g (z .box .«max_y»)
 
   abbrev ApartX : Span → ℕ → Type 0
@@ -108,7 +108,7 @@ module _ (table : List Bool) (ls : List Lane) (p : Point) (P : Coords p) (spans 
   abbrev ApartY : Span → ℕ → Type 0
   ApartY z r = Apart cy (ly z) (hy z) r
 
-  below-count : (o c : Float) (n : ℕ) → 1 ≤ n → bucket o c n < n
+  pub below-count : (o c : Float) (n : ℕ) → 1 ≤ n → bucket o c n < n
   below-count o c n h = go (bucket o c n) (bucket-top o c n)
     where
       go : (b : ℕ) → b ≤ n - 1 → b < n
@@ -171,7 +171,7 @@ module _ (table : List Bool) (ls : List Lane) (p : Point) (P : Coords p) (spans 
   from-apart none z t h k s = k
   from-apart (found d i l q) z t h k s = inr (t, h, k, s)
 
-  cell-holds : (z : Span) (n x y : ℕ) → lx z ≤ x → x ≤ hx z → ly z ≤ y → y ≤ hy z → T (holds (itemOf g n z) (cellAt x y))
+  pub cell-holds : (z : Span) (n x y : ℕ) → lx z ≤ x → x ≤ hx z → ly z ≤ y → y ≤ hy z → T (holds (itemOf g n z) (cellAt x y))
   unfolding holds itemOf
   cell-holds z n x y a b c d =
       and-i (leb (lx z) x) (leb x (hx z) && (leb (ly z) y && leb y (hy z))) (le→leb (lx z) x a)
@@ -182,20 +182,20 @@ module _ (table : List Bool) (ls : List Lane) (p : Point) (P : Coords p) (spans 
     z-ok : SpanOk table ls z
     z-ok = ok z k
 
-    cols-order : lx z ≤ hx z
+    pub cols-order : lx z ≤ hx z
     cols-order =
         bucket-mono (g .cell) (g .«min_x») (g .cols) (F .cell) (F .x) (F .cols) (z .box .«min_x») (z .box .«max_x») (z-ok .box .x .low)
         (z-ok .box .x .high) (⊑-trans (z-ok .box .x .each 0 (omega arith) .low) (z-ok .box .x .each 0 (omega arith) .high))
 
-    rows-order : ly z ≤ hy z
+    pub rows-order : ly z ≤ hy z
     rows-order =
         bucket-mono (g .cell) (g .«min_y») (g .rows) (F .cell) (F .y) (F .rows) (z .box .«min_y») (z .box .«max_y») (z-ok .box .y .low)
         (z-ok .box .y .high) (⊑-trans (z-ok .box .y .each 0 (omega arith) .low) (z-ok .box .y .each 0 (omega arith) .high))
 
-    last-col : hx z < g .cols
+    pub last-col : hx z < g .cols
     last-col = below-count (sub binary32 (z .box .«max_x») (g .«min_x»)) (g .cell) (g .cols) (F .colsPos)
 
-    last-row : hy z < g .rows
+    pub last-row : hy z < g .rows
     last-row = below-count (sub binary32 (z .box .«max_y») (g .«min_y»)) (g .cell) (g .rows) (F .rowsPos)
 
     fewer : (m n t : ℕ) → m ≤ 1024 → n ≤ 1024 → t ≤ max m n → t ≤ 1024

@@ -19,6 +19,7 @@ use Rattle.exact.specs.Monotone.{frac-mono}
 use Rattle.exact.specs.Arithmetic.{size-is, sub-frac, div-frac}
 use Rattle.exact.specs.Steps.{Step, div-step}
 use Rattle.float_laws.proofs.Casts.{unsigned-is, unsigned-edges, unsigned-mono}
+use Rattle.grid.proofs.Buckets.{bucket-is}
 use Rattle.grid.specs.Grid.{bucket}
 use Rattle.accuracy.proofs.Coordinates.{Coord, diff, diff-size}
 
@@ -86,8 +87,7 @@ cell-pos c s = go U U-large (val c) (s .low)
     go u h l i = unfold ι _·_ in omega arith
 
 pub bucket-top : (o c : Float) (n : ℕ) → bucket o c n ≤ n - 1
-unfolding bucket
-bucket-top o c n = omega arith
+bucket-top o c n = let e = bucket-is o c n in omega arith
 
 -- ---- the bucket of x - m, for coordinates x and m, among n cells of size c
 module _ (c m : Float) (n : ℕ) (C : CellSize c) (M : Coord m) (N : n ≤ 1024) where
@@ -154,7 +154,7 @@ module _ (c m : Float) (n : ℕ) (C : CellSize c) (M : Coord m) (N : n ≤ 1024)
       (d .near) (abs-least (diff-size (val x) (val m) (X .size) (M .size)))
     where
       under : (x : Float) → i ≤ bucket (sub binary32 x m) c n → i ≤ toUnsigned 64 (div binary32 (sub binary32 x m) c)
-      under x h = unfold bucket in omega arith
+      under x h = let e = bucket-is (sub binary32 x m) c n in omega arith
 
       left : (i : ℕ) (c : Z) → ι U ⊠ (16777216 · (ι i ⊠ c)) ≈ 16777216 · (ι (i * U) ⊠ c)
       left i c = unfold ι _⊠_ _·_ in omega arith
@@ -188,7 +188,7 @@ module _ (c m : Float) (n : ℕ) (C : CellSize c) (M : Coord m) (N : n ≤ 1024)
     where
       whole : (x : Float) → bucket (sub binary32 x m) c n < n - 1
           → bucket (sub binary32 x m) c n ≡ toUnsigned 64 (div binary32 (sub binary32 x m) c)
-      whole x h = unfold bucket in omega arith
+      whole x h = let e = bucket-is (sub binary32 x m) c n in omega arith
 
       small : (i b : ℕ) → b ≡ i → b < n - 1 → i < 1024
       small i b e h = omega arith
@@ -226,7 +226,7 @@ module _ (c m : Float) (n : ℕ) (C : CellSize c) (M : Coord m) (N : n ≤ 1024)
 
       cut : toUnsigned 64 (div binary32 (sub binary32 x m) c) ≤ toUnsigned 64 (div binary32 (sub binary32 y m) c)
           → bucket (sub binary32 x m) c n ≤ bucket (sub binary32 y m) c n
-      cut h = unfold bucket in omega arith
+      cut h = let e = bucket-is (sub binary32 x m) c n in let f = bucket-is (sub binary32 y m) c n in omega arith
 
   -- s + 1 or more columns from p up to x: s whole cells lie between
   pub buckets-apart : (p x : Float) (s : ℕ) → Coord p → Coord x → at p + suc s ≤ at x

@@ -30,5 +30,8 @@ pub mod Index
 pub mod Bound
 pub mod Tape
 pub mod Theorem
+-- finite points far away: an answer all the same
+pub mod Numbers
+pub mod Everywhere
 -- the hypotheses can be met
 pub mod Example

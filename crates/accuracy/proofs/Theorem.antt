@@ -78,7 +78,7 @@ module _ (l : Lane) (i : ℕ) (p c : Point) (h : i + 1 < l .count) (t : Hit (poi
       four : sq (ι (4 * U * U)) ≈ 16 · sq (ι (U * U))
       four = unfold ι _⊠_ _·_ in omega arith
 
-finite-point : (p : Point) → Coords p → T (finitePoint p)
+pub finite-point : (p : Point) → Coords p → T (finitePoint p)
 finite-point p P =
     and-i (finite (p .x) && finite (p .y)) (finite (p .z)) (and-i (finite (p .x)) (finite (p .y)) (P .x .good .real) (P .y .good .real))
     (P .z .good .real)
@@ -92,10 +92,10 @@ module _ (table : List Bool) (ls : List Lane) (p : Point) (r : LanesIn ls) (P : 
   abbrev g : Grid
   g = gridFor (s ∷ ss)
 
-  ok : (z : Span) → In z spans → SpanOk table ls z
+  pub ok : (z : Span) → In z spans → SpanOk table ls z
   ok z h = spans-ok table ls r z (subst (λ (l : List Span). In z l) (sym eq) h)
 
-  fine : Fine g
+  pub fine : Fine g
   unfolding gridFor
   fine =
       grid-fine (extentOf (s .box) (boxesOf ss)) (length (s ∷ ss))

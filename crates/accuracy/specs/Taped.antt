@@ -1,4 +1,5 @@
--- Document 01, "Taped distance", in exact whole numbers. Definitions only; proofs/Theorem.antt proves `TapedDistance` and `NoLaneDrives`.
+-- Document 01, "Taped distance", in exact whole numbers. Definitions only; proofs/Theorem.antt proves `TapedDistance` and `NoLaneDrives`,
+-- proofs/Everywhere.antt `FoundEverywhere`.
 -- `val x` is the exact value of a finite f32 as a whole number of units of 2 ^ -149 m, and one metre is U units. `Z` are the integers,
 -- `ι n` is n among them, `_⊞_`, `_⊟_`, `_⊠_`, `_⊑_` are plus, minus, times and at most, `n · a` is n times a and `sq a` is a times a.
 use mathlib.Core.Path.{_≡_}
@@ -12,6 +13,7 @@ use Rattle.exact.specs.Integers.{Z, _⊑_, _⊞_, _⊟_, _⊠_, _·_, ι}
 use Rattle.exact.specs.Inequalities.{sq}
 use Rattle.exact.specs.Values.{U, val}
 use Rattle.coords.specs.declared.Point.{Point}
+use Rattle.coords.specs.Coords.{finitePoint}
 use Rattle.geometry.specs.declared.Projection.{Projection}
 use Rattle.geometry.specs.Polyline.{pointAt}
 use Rattle.geometry_laws.specs.Range.{PointIn, PointSized}
@@ -109,3 +111,15 @@ TapedDistance = (table : List Bool) (ls : List Lane) (p : Point) → LanesIn ls 
 abbrev pub NoLaneDrives : Type 0
 NoLaneDrives =
     (table : List Bool) (ls : List Lane) (p : Point) → ((l : Lane) → In l ls → drives table l ≡ false) → nearestLane table ls p ≡ none
+
+-- so for every finite point, none exactly when no lane drives: where one does, something is found
+pub record Found (table : List Bool) (ls : List Lane) (p : Point) : Type 0 where
+  pub dist : Float
+  pub number : ℕ
+  pub lane : Lane
+  pub proj : Projection
+  pub is : nearestLane table ls p ≡ found dist number lane proj
+
+abbrev pub FoundEverywhere : Type 0
+FoundEverywhere =
+    (table : List Bool) (ls : List Lane) (p : Point) → LanesIn ls → SomeDrives table ls → T (finitePoint p) → Found table ls p

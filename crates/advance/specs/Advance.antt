@@ -1,78 +1,27 @@
--- advance.rs, `advance`: every place a distance on along the lanes. A state is taken on, one branch at a time, as the Rust's loop does it;
--- lists have their newest element first. `specs/` of `branches` and `ends` say where a branch goes on and where it ends. Definitions only.
+-- advance.rs, `advance`: every place a distance on along the lanes: the first branches, what a run from them answers, and the numbers of a
+-- refusal. `specs/` of `explore` says how a run goes on. Definitions only.
 use mathlib.Core.Path.{_≡_}
 use mathlib.Core.Bool.{Bool, true, false, cond, not, _&&_}
 use mathlib.Core.List.{List, [], _∷_, _++_}
-use Prim.Native.Nat.{ℕ, zero, suc, _*_}
+use Prim.Native.Nat.{ℕ, _*_}
 use lib.Dec.{eqb, ltb, leb}
 use lib.ListN.{length}
-use lib.Ieee.{Float, binary64, mul, le, lt}
+use lib.Ieee.{Float, binary64, mul, le}
 use lib.Ieee.Scale.{finite}
 use Rattle.float.specs.Sign.{absOf}
 use Rattle.geometry.specs.Over.{over}
 use Rattle.road.specs.Along.{alongOf}
-use Rattle.beside.specs.declared.LaneId.{LaneId}
+use Rattle.rows.specs.Rows.{directionOf, placeOf, placedSection, pointsOf, stationsOf}
+use Rattle.plan_find.specs.FirstRow.{firstRow, isLane}
 use Rattle.beside.specs.declared.LanePosition.{LanePosition}
-use Rattle.beside.specs.Rows.{directionOf, placeOf, placedSection, rowOf}
 use Rattle.beside.specs.Beside.{inSection, zero64}
 use Rattle.branches.specs.declared.Branch.{Branch}
-use Rattle.branches.specs.Tables.{Tables, pointsOf, stationsOf, lengthOf}
-use Rattle.branches.specs.Branches.{sideOf, roomOf, leavingOf, nextLanes}
-use Rattle.branches.specs.Front.{Front, enterAll, isEmpty}
+use Rattle.branches.specs.Tables.{Tables}
+use Rattle.branches.specs.Branches.{sideOf}
 use Rattle.ends.specs.declared.Advance.{Advance}
-use Rattle.ends.specs.Ends.{caseOf, positionOf, shortOf, Found, place}
+use Rattle.ends.specs.Ends.{caseOf, positionOf, shortOf}
+use Rattle.explore.specs.Explore.{State, runFrom}
 use Rattle.advance.specs.declared.Advanced.{Advanced}
-
--- ---- one branch
-
-abbrev pub placeIn : Tables → Bool → Branch → Float → Found → Found
-placeIn t ahead b room g = place (t .lanes) (t .points) (t .fans) (t .sections) (t .stations) (t .places) (t .placeCount) ahead b room g
-
-pub record State : Type 0 where
-  pub front : Front
-  pub found : Found
-
-abbrev pub pickState : Bool → State → State → State
-pickState b x y = cond b x y
-
--- the branch b, taken off, on a lane of the plan: it goes on where metres are left and a lane follows, and ends otherwise
-unfoldable pub follow : Tables → Bool → Branch → State → State
-follow t ahead b q =
-    let room = roomOf (b .up) (lengthOf (t .lanes) (t .cumulative) (b .lane)) (b .arc) in
-    let leaving = leavingOf (t .lanes) (t .points) (t .cumulative) b room in
-    let next = nextLanes t ahead b in
-    pickState (lt room (b .remaining) && not (isEmpty next))
-    (record { front = enterAll (t .lanes) (t .points) (t .cumulative) ahead leaving next (q .front); found = q .found })
-    (record { front = q .front; found = placeIn t ahead b room (q .found) })
-
--- the state with other branches in flight
-abbrev pub withTodo : List Branch → State → State
-withTodo bs q = record { front = record { todo = bs; entered = q .front .entered; full = q .front .full }; found = q .found }
-
--- the newest branch is taken off, and followed where its lane is in the plan
-unfoldable pub stepFrom : Tables → Bool → List Branch → State → State
-stepFrom t ahead [] q = q
-stepFrom t ahead (b ∷ bs) q = pickState (ltb (b .lane) (t .laneCount)) (follow t ahead b (withTodo bs q)) (withTodo bs q)
-
-abbrev pub step : Tables → Bool → State → State
-step t ahead q = stepFrom t ahead (q .front .todo) q
-
--- branches are left, and the keys fit
-abbrev pub goesOn : State → Bool
-goesOn q = not (isEmpty (q .front .todo)) && not (q .front .full)
-
--- a counted number of steps, while the Bool says so
-unfoldable pub run : Tables → Bool → ℕ → Bool → State → State
-run t ahead zero more q = q
-run t ahead (suc k) false q = q
-run t ahead (suc k) true q =
-    let next = step t ahead q in
-    run t ahead k (goesOn next) next
-
-abbrev pub runFrom : Tables → Bool → ℕ → State → State
-runFrom t ahead k q = run t ahead k (goesOn q) q
-
--- ---- the query
 
 abbrev pub noneYet : List Branch → State
 noneYet todo = record { front = record { todo = todo; entered = []; full = false }; found = record { placed = []; out = [] } }
@@ -121,8 +70,8 @@ pub record Answer : Type 0 where
 abbrev pub refusal : ℕ → Advanced
 refusal number = record { number = number; keys = 0; positions = 0 }
 
-abbrev pub refused : ℕ → List ℕ → List Float → Answer
-refused number rows metres = record { advanced = refusal number; rows = rows; metres = metres }
+abbrev pub refusedWith : ℕ → List ℕ → List Float → Answer
+refusedWith number rows metres = record { advanced = refusal number; rows = rows; metres = metres }
 
 abbrev pub pickAnswer : Bool → Answer → Answer → Answer
 pickAnswer b x y = cond b x y
@@ -136,7 +85,7 @@ answeredBy full keys out rows metres =
       rows = over (rowsOf caseRow out) rows;
       metres = over (rowsOf metreRow out) metres;
     })
-    (refused 14 rows metres)
+    (refusedWith 14 rows metres)
 
 abbrev pub answered : State → List ℕ → List Float → Answer
 answered q rows metres = answeredBy (q .front .full) (length (q .front .entered)) (q .found .out) rows metres
@@ -145,16 +94,18 @@ answered q rows metres = answeredBy (q .front .full) (length (q .front .entered)
 abbrev pub AnswerOf : Advanced → List ℕ → List Float → Answer → Type 0
 AnswerOf r rows metres a = _≡_ {A = Answer} (record { advanced = r; rows = rows; metres = metres }) a
 
--- `bounds` are the sections' starts and ends. From the lane in row i; 12: there is none, or it has no place, or s is not within its section; 13: the distance is not finite
+-- `bounds` are the sections' starts and ends. From the lane in row i; 12: there is none, or it has no place, or s is not within its section;
+-- 13: the distance is not finite
 unfoldable pub advanceRow : Tables → List Float → ℕ → Float → Float → Float → List ℕ → List Float → Answer
 advanceRow t bounds i s offset distance rows metres =
     let p = placeOf (t .fans) i in
     let j = placedSection (t .places) p in
     let arc = alongOf (pointsOf (t .lanes) (t .points) i) (stationsOf (t .sections) (t .stations) j) s in
     pickAnswer (ltb i (t .laneCount) && (ltb p (t .placeCount) && inSection bounds j s))
-    (pickAnswer (finite distance) (answered (explored t i arc offset distance) rows metres) (refused 13 rows metres))
-    (refused 12 rows metres)
+    (pickAnswer (finite distance) (answered (explored t i arc offset distance) rows metres) (refusedWith 13 rows metres))
+    (refusedWith 12 rows metres)
 
-unfoldable pub advanceOf : Tables → List Float → LanePosition → Float → List ℕ → List Float → Answer
-advanceOf t bounds from distance rows metres = advanceRow t bounds (rowOf (t .lanes) (from .lane .0) (t .laneCount)) (from .s)
-    (from .offset) distance rows metres
+unfoldable pub advanceRows : Tables → List Float → LanePosition → Float → List ℕ → List Float → Answer
+advanceRows t bounds from distance rows metres =
+    let i = firstRow (isLane (t .lanes) (from .lane .0)) (t .laneCount) 0 256 in
+    advanceRow t bounds i (from .s) (from .offset) distance rows metres

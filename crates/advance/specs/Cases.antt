@@ -13,14 +13,15 @@ use Rattle.geometry.specs.Partition.{leading}
 use Rattle.geometry.specs.Locate.{segmentOf, localT, locateOf, pointAlong}
 use Rattle.geometry.specs.Project.{leftNormal, fractionAlong, hitAlong, nearerAt, projectTo, projectSegments}
 use Rattle.road.specs.Along.{fractionAt, alongOf, reachedBy, partOf, stationOn, stationOf}
-use Rattle.beside.specs.declared.LaneId.{LaneId}
+use Rattle.plan_format.specs.declared.LaneId.{LaneId}
 use Rattle.beside.specs.declared.LanePosition.{LanePosition}
-use Rattle.beside.specs.Rows.{rowOf}
+use Rattle.plan_find.specs.FirstRow.{firstRow}
 use Rattle.advance.specs.declared.Advanced.{Advanced}
 use Rattle.branches.specs.Tables.{Tables, ledTo}
 use Rattle.branches.specs.Branches.{millimetres, atEnd, isNext, kept, nextLanes, upOn, branchOnto, keyOf, holds}
-use Rattle.advance.specs.Advance.{Answer, follow, stepFrom, run, firstBranches, explored, rowsOf, refused, answeredBy, advanceRow}
-use Rattle.advance.specs.Advance.{advanceOf}
+use Rattle.explore.specs.Explore.{follow, stepFrom, run}
+use Rattle.advance.specs.Advance.{Answer, firstBranches, explored, rowsOf, refusedWith, answeredBy, advanceRow}
+use Rattle.advance.specs.Advance.{advanceRows}
 use Rattle.branches.specs.Front.{enter, enterAll}
 use Rattle.ends.specs.Ends.{placingOf, endArc, endPosition, endOf, give, place}
 
@@ -63,12 +64,12 @@ one keys case lane s short =
     record { advanced = record { number = 0; keys = keys; positions = 1 }; rows = case ∷ lane ∷ []; metres = s ∷ d 0 ∷ short ∷ [] }
 
 abbrev by : Float → Answer
-by distance = advanceOf line bounds from distance (7 ∷ 7 ∷ []) (d 7 ∷ d 7 ∷ d 7 ∷ [])
+by distance = advanceRows line bounds from distance (7 ∷ 7 ∷ []) (d 7 ∷ d 7 ∷ d 7 ∷ [])
 
 -- 6 m: to s 8 on lane 1, which metres left equal to the lane's do not leave
 by-six : by (d 0x4018000000000000) ≡ one 0 0 1 (d 0x4020000000000000) (d 0)
-unfolding advanceOf advanceRow answeredBy explored run stepFrom follow place give endOf endPosition endArc placingOf enter enterAll
-    firstBranches rowsOf rowOf nextLanes kept isNext atEnd upOn branchOnto keyOf holds millimetres ledTo alongOf fractionAt stationOf
+unfolding advanceRows advanceRow answeredBy explored run stepFrom follow place give endOf endPosition endArc placingOf enter enterAll
+    firstBranches rowsOf firstRow nextLanes kept isNext atEnd upOn branchOnto keyOf holds millimetres ledTo alongOf fractionAt stationOf
     stationOn reachedBy partOf segmentOf leading arcAt cumulativeOf pointAt sqrtOf lengthOf narrowOf roundOf wholeBy absOf pointAlong
     locateOf localT projectSegments projectTo nearerAt hitAlong fractionAlong leftNormal crossOf normalizeOr toBits toSigned add sub mul div
     lt le eq neg ofBits ofInt round isNan
@@ -76,8 +77,8 @@ by-six = refl
 
 -- 6.5 m: to s 8.5 on lane 2
 by-six-and-a-half : by (d 0x401a000000000000) ≡ one 1 0 2 (d 0x4021000000000000) (d 0)
-unfolding advanceOf advanceRow answeredBy explored run stepFrom follow place give endOf endPosition endArc placingOf enter enterAll
-    firstBranches rowsOf rowOf nextLanes kept isNext atEnd upOn branchOnto keyOf holds millimetres ledTo alongOf fractionAt stationOf
+unfolding advanceRows advanceRow answeredBy explored run stepFrom follow place give endOf endPosition endArc placingOf enter enterAll
+    firstBranches rowsOf firstRow nextLanes kept isNext atEnd upOn branchOnto keyOf holds millimetres ledTo alongOf fractionAt stationOf
     stationOn reachedBy partOf segmentOf leading arcAt cumulativeOf pointAt sqrtOf lengthOf narrowOf roundOf wholeBy absOf pointAlong
     locateOf localT projectSegments projectTo nearerAt hitAlong fractionAlong leftNormal crossOf normalizeOr toBits toSigned add sub mul div
     lt le eq neg ofBits ofInt round
@@ -85,26 +86,26 @@ by-six-and-a-half = refl
 
 -- 20 m: a dead end at s 16, 6 m short
 by-twenty : by (d 0x4034000000000000) ≡ one 1 1 2 (d 0x4030000000000000) (d 0x4018000000000000)
-unfolding advanceOf advanceRow answeredBy explored run stepFrom follow place give endOf endPosition endArc placingOf enter enterAll
-    firstBranches rowsOf rowOf nextLanes kept isNext atEnd upOn branchOnto keyOf holds millimetres ledTo alongOf fractionAt stationOf
+unfolding advanceRows advanceRow answeredBy explored run stepFrom follow place give endOf endPosition endArc placingOf enter enterAll
+    firstBranches rowsOf firstRow nextLanes kept isNext atEnd upOn branchOnto keyOf holds millimetres ledTo alongOf fractionAt stationOf
     stationOn reachedBy partOf segmentOf leading arcAt cumulativeOf pointAt sqrtOf lengthOf narrowOf roundOf wholeBy absOf pointAlong
     locateOf localT projectSegments projectTo nearerAt hitAlong fractionAlong leftNormal crossOf normalizeOr toBits toSigned add sub mul div
     lt le eq neg ofBits ofInt round
 by-twenty = refl
 
 -- an infinite distance
-by-infinity : by (d 0x7ff0000000000000) ≡ refused 13 (7 ∷ 7 ∷ []) (d 7 ∷ d 7 ∷ d 7 ∷ [])
-unfolding advanceOf advanceRow answeredBy explored run stepFrom follow place give endOf endPosition endArc placingOf enter enterAll
-    firstBranches rowsOf rowOf nextLanes kept isNext atEnd upOn branchOnto keyOf holds millimetres ledTo alongOf fractionAt stationOf
+by-infinity : by (d 0x7ff0000000000000) ≡ refusedWith 13 (7 ∷ 7 ∷ []) (d 7 ∷ d 7 ∷ d 7 ∷ [])
+unfolding advanceRows advanceRow answeredBy explored run stepFrom follow place give endOf endPosition endArc placingOf enter enterAll
+    firstBranches rowsOf firstRow nextLanes kept isNext atEnd upOn branchOnto keyOf holds millimetres ledTo alongOf fractionAt stationOf
     stationOn reachedBy partOf segmentOf leading arcAt cumulativeOf pointAt sqrtOf lengthOf narrowOf roundOf wholeBy absOf pointAlong
     locateOf localT projectSegments projectTo nearerAt hitAlong fractionAlong leftNormal crossOf normalizeOr toBits toSigned add sub mul div
     lt le eq neg ofBits ofInt round
 by-infinity = refl
 
 -- no room for the position
-short-list : advanceOf line bounds from (d 0x4018000000000000) (7 ∷ []) (d 7 ∷ d 7 ∷ d 7 ∷ []) ≡ refused 14 (7 ∷ []) (d 7 ∷ d 7 ∷ d 7 ∷ [])
-unfolding advanceOf advanceRow answeredBy explored run stepFrom follow place give endOf endPosition endArc placingOf enter enterAll
-    firstBranches rowsOf rowOf nextLanes kept isNext atEnd upOn branchOnto keyOf holds millimetres ledTo alongOf fractionAt stationOf
+short-list : advanceRows line bounds from (d 0x4018000000000000) (7 ∷ []) (d 7 ∷ d 7 ∷ d 7 ∷ []) ≡ refusedWith 14 (7 ∷ []) (d 7 ∷ d 7 ∷ d 7 ∷ [])
+unfolding advanceRows advanceRow answeredBy explored run stepFrom follow place give endOf endPosition endArc placingOf enter enterAll
+    firstBranches rowsOf firstRow nextLanes kept isNext atEnd upOn branchOnto keyOf holds millimetres ledTo alongOf fractionAt stationOf
     stationOn reachedBy partOf segmentOf leading arcAt cumulativeOf pointAt sqrtOf lengthOf narrowOf roundOf wholeBy absOf pointAlong
     locateOf localT projectSegments projectTo nearerAt hitAlong fractionAlong leftNormal crossOf normalizeOr toBits toSigned add sub mul div
     lt le eq neg ofBits ofInt round

@@ -1,21 +1,22 @@
 -- Why 1,026 steps suffice: each step takes one branch off, each key entered adds one, and there are at most two first ones. So a run ends
 -- with no branch left, or with more keys than fit; and no key is counted twice.
-use mathlib.Core.Path.{_≡_, refl, sym, ap, _∙_, subst}
+use mathlib.Core.Path.{_≡_, refl, sym, ap, _∙_}
 use mathlib.Core.Bool.{Bool, true, false, true≢false, cond, not, _&&_}
 use mathlib.Core.List.{List, [], _∷_}
-use Prim.Native.Nat.{ℕ, zero, suc, _+_, _≤_, _<_}
+use Prim.Native.Nat.{ℕ, zero, suc, _+_, _≤_}
 use native.Mathlib.Omega.{arith}
 use lib.Dec.{eqb, ltb}
 use lib.ListN.{length}
 use lib.Ieee.{Float, le, lt}
-use Rattle.beside.specs.Rows.{directionOf}
+use Rattle.rows.specs.Rows.{directionOf, lengthOf}
 use Rattle.beside.specs.Beside.{zero64}
 use Rattle.branches.specs.declared.Branch.{Branch}
-use Rattle.branches.specs.Tables.{Tables, lengthOf}
+use Rattle.branches.specs.Tables.{Tables}
 use Rattle.branches.specs.Branches.{roomOf, leavingOf, nextLanes}
 use Rattle.branches.specs.Front.{Front, enterAll, isEmpty}
 use Rattle.branches.specs.FrontLaws.{once, Grown, grown-same, grown-all}
-use Rattle.advance.specs.Advance.{State, placeIn, pickState, follow, withTodo, stepFrom, step, goesOn, run, runFrom, noneYet}
+use Rattle.explore.specs.Explore.{State, placeIn, pickState, follow, withTodo, stepFrom, step, goesOn, run}
+use Rattle.advance.specs.Advance.{noneYet}
 use Rattle.advance.specs.Advance.{firstBranch, pickBranches, firstBranches, explored}
 
 module _ (t : Tables) (ahead : Bool) where

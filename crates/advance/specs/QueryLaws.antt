@@ -1,29 +1,30 @@
 -- What the code of the query makes of a run: its first branches, its answer, and the lists written.
 use mathlib.Core.Path.{_≡_, refl, sym, ap, _∙_}
-use mathlib.Core.Bool.{Bool, true, false, not, _&&_}
+use mathlib.Core.Bool.{Bool, true, false, not}
 use mathlib.Core.List.{List, [], _∷_, _++_, append-assoc}
-use Prim.Native.Nat.{ℕ, zero, suc, _+_, _*_, _<_, _≤_}
+use Prim.Native.Nat.{ℕ, _+_, _*_, _<_, _≤_}
 use native.Mathlib.Numerals.{add-one}
 use native.Mathlib.Omega.{arith}
-use lib.Dec.{eqb, ltb, leb}
 use lib.ListN.{length, set, length-append}
 use lib.Ieee.{Float, nan, le}
 use lib.Ieee.Scale.{finite}
 use borrow.Author.Tests.{eq-eqb, ne-eqb, lt-ltb, le-ltb, lt-leb, le-leb}
 use Rattle.geometry.specs.Over.{over, over-next, over-three}
 use Rattle.road.specs.Along.{alongOf}
-use Rattle.beside.specs.declared.LaneId.{LaneId}
+use Rattle.plan_format.specs.declared.LaneId.{LaneId}
 use Rattle.beside.specs.declared.LanePosition.{LanePosition}
-use Rattle.beside.specs.Rows.{directionOf, placeOf, placedSection, rowOf}
+use Rattle.rows.specs.Rows.{directionOf, placeOf, placedSection, pointsOf, stationsOf}
+use Rattle.plan_find.specs.FirstRow.{firstRow, isLane}
 use Rattle.beside.specs.Beside.{inSection, zero64}
 use Rattle.branches.specs.declared.Branch.{Branch}
 use Rattle.branches.specs.declared.Key.{Key}
 use Rattle.ends.specs.declared.Placing.{Placing}
 use Rattle.ends.specs.declared.Advance.{Advance}
 use Rattle.advance.specs.declared.Advanced.{Advanced}
-use Rattle.branches.specs.Tables.{Tables, pointsOf, stationsOf}
-use Rattle.advance.specs.Advance.{State, runFrom, noneYet, firstBranch, firstBranches, explored, rowsOf, caseRow, metreRow, Answer}
-use Rattle.advance.specs.Advance.{refusal, refused, answeredBy, answered, AnswerOf, advanceRow, advanceOf}
+use Rattle.branches.specs.Tables.{Tables}
+use Rattle.explore.specs.Explore.{State, runFrom}
+use Rattle.advance.specs.Advance.{noneYet, firstBranch, firstBranches, explored, rowsOf, caseRow, metreRow, Answer}
+use Rattle.advance.specs.Advance.{refusal, answeredBy, answered, AnswerOf, advanceRow, advanceRows}
 use Rattle.ends.specs.Ends.{caseOf, positionOf, shortOf}
 use Rattle.branches.specs.Held.{heldBy}
 use Rattle.branches.specs.HeldLaws.{held-length}
@@ -158,34 +159,34 @@ answered-is q e r rows rows′ metres metres′ keys h size p =
 
 -- ---- the query, from the row of the position's lane
 module _ (t : Tables) (bounds : List Float) (from : LanePosition) (distance : Float) (rows : List ℕ) (metres : List Float) (i : ℕ)
-    (is : i ≡ rowOf (t .lanes) (from .lane .0) (t .laneCount)) where
+    (is : i ≡ firstRow (isLane (t .lanes) (from .lane .0)) (t .laneCount) 0 256) where
   abbrev section : ℕ
   section = placedSection (t .places) (placeOf (t .fans) i)
 
-  row-is : advanceRow t bounds i (from .s) (from .offset) distance rows metres ≡ advanceOf t bounds from distance rows metres
-  unfolding advanceOf
+  row-is : advanceRow t bounds i (from .s) (from .offset) distance rows metres ≡ advanceRows t bounds from distance rows metres
+  unfolding advanceRows
   row-is = ap (λ (j : ℕ). advanceRow t bounds j (from .s) (from .offset) distance rows metres) is
 
   pub query-unknown : (r : Advanced) → r ≡ refusal 12 → t .laneCount ≤ i
-      → AnswerOf r rows metres (advanceOf t bounds from distance rows metres)
+      → AnswerOf r rows metres (advanceRows t bounds from distance rows metres)
   unfolding advanceRow
   query-unknown r e h = rw e (sym (rw (le-ltb i (t .laneCount) h))) ∙ row-is
 
   module _ (known : i < t .laneCount) where
     pub query-unplaced : (r : Advanced) → r ≡ refusal 12 → t .placeCount ≤ placeOf (t .fans) i
-        → AnswerOf r rows metres (advanceOf t bounds from distance rows metres)
+        → AnswerOf r rows metres (advanceRows t bounds from distance rows metres)
     unfolding advanceRow
     query-unplaced r e h = rw e (sym (rw (lt-ltb i (t .laneCount) known, le-ltb (placeOf (t .fans) i) (t .placeCount) h))) ∙ row-is
 
     module _ (placed : placeOf (t .fans) i < t .placeCount) (b : Bool) (within : b ≡ inSection bounds section (from .s)) where
-      pub query-off : (r : Advanced) → r ≡ refusal 12 → b ≡ false → AnswerOf r rows metres (advanceOf t bounds from distance rows metres)
+      pub query-off : (r : Advanced) → r ≡ refusal 12 → b ≡ false → AnswerOf r rows metres (advanceRows t bounds from distance rows metres)
       unfolding advanceRow
       query-off r e f = rw e
           (sym (rw (lt-ltb i (t .laneCount) known, lt-ltb (placeOf (t .fans) i) (t .placeCount) placed, ← within, f))) ∙ row-is
 
       module _ (on : b ≡ true) (d : Bool) (bounded : d ≡ finite distance) where
         pub query-endless : (r : Advanced) → r ≡ refusal 13 → d ≡ false
-            → AnswerOf r rows metres (advanceOf t bounds from distance rows metres)
+            → AnswerOf r rows metres (advanceRows t bounds from distance rows metres)
         unfolding advanceRow
         query-endless r e f =
             rw e (sym (rw (
@@ -201,7 +202,7 @@ module _ (t : Tables) (bounds : List Float) (from : LanePosition) (distance : Fl
         pub query-answered : d ≡ true → (r : Advanced) (rows′ : List ℕ) (metres′ : List Float) (arc : Float)
             → arc ≡ alongOf (pointsOf (t .lanes) (t .points) i) (stationsOf (t .sections) (t .stations) section) (from .s)
             → AnswerOf r rows′ metres′ (answered (explored t i arc (from .offset) distance) rows metres)
-            → AnswerOf r rows′ metres′ (advanceOf t bounds from distance rows metres)
+            → AnswerOf r rows′ metres′ (advanceRows t bounds from distance rows metres)
         unfolding advanceRow
         query-answered f r rows′ metres′ arc e p =
             p ∙ sym (rw (

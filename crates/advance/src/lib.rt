@@ -3,286 +3,26 @@
 use beside::LanePosition;
 use branches::Branch;
 use branches::Flight;
-use branches::Leaving;
+use explore::Progress;
 ghost use mathlib.Core.Path.{_≡_};
 ghost use Prim.Native.Nat.{_+_, _*_, _<_, _≤_};
 ghost use lib.ListN.{length};
 ghost use Rattle.geometry.specs.Over.{over};
-ghost use Rattle.road.specs.Along.{alongOf};
-ghost use Rattle.road.specs.AlongLaws.{Stationed};
-ghost use Rattle.branches.specs.Tables.{tables, Tabled, Laid, Bounded, endStation, pointsOf, arcsOf, stationsOf};
-ghost use Rattle.advance.specs.Advance.{follow, step, runFrom, firstBranch, firstBranches, explored, rowsOf, caseRow, metreRow};
+ghost use Rattle.road.specs.Along.{Stationed, alongOf};
+ghost use Rattle.rows.specs.Rows.{endStation, pointsOf, arcsOf, stationsOf};
+ghost use Rattle.branches.specs.Tables.{tables, Tabled, Laid, Bounded};
+ghost use Rattle.advance.specs.Advance.{firstBranch, firstBranches, explored, rowsOf, caseRow, metreRow};
 ghost use Rattle.advance.specs.Advance.{refusal, answeredBy, answered};
-ghost use Rattle.advance.specs.Advance.{AnswerOf, advanceOf};
-ghost use Rattle.branches.specs.Held.{heldBy, branchAt, Balanced, FrontRoom};
+ghost use Rattle.advance.specs.Advance.{AnswerOf, advanceRows};
+ghost use Rattle.branches.specs.Held.{heldBy, branchAt, FrontRoom};
 ghost use Rattle.ends.specs.Held.{advanceAt, FoundRoom};
-ghost use Rattle.advance.specs.Held.{stateOf};
 
 // What `advance` answers: document 01's number, how many keys were entered, and how many positions stand in the lists.
+#[repr(C)]
 pub struct Advanced {
     pub number: usize,
     pub keys: usize,
     pub positions: usize,
-}
-
-// How far a run has come: its branches and keys, and how many places are given.
-pub struct Progress {
-    pub flight: Flight,
-    pub placed: usize,
-}
-
-// The branch b, taken off, goes on or ends.
-fn follow(
-    lanes: &[usize],
-    n: usize,
-    points: &[f32],
-    cumulative: &[f32],
-    fans: &[usize],
-    links: &[usize],
-    sections: &[usize],
-    stations: &[f64],
-    places: &[usize],
-    m: usize,
-    ahead: bool,
-    b: Branch,
-    todo: &mut [usize],
-    arcs: &mut [f32],
-    metres: &mut [f64],
-    keys: &mut [usize],
-    placings: &mut [usize],
-    cases: &mut [usize],
-    ends: &mut [f64],
-    q: Progress,
-) -> Progress
-    requires { ⌜ Tabled (tables (now lanes) n (now points) (now cumulative) (now fans) (now links) (now sections) (now stations)
-        (now places) m) × (b .lane < n) × Balanced (q .flight) × (q .placed < 1026)
-        × FrontRoom (now todo) (now arcs) (now metres) (now keys) × FoundRoom (now placings) (now cases) (now ends) ⌝ }
-    ensures { λ r. ⌜ Balanced (r .flight) × (r .placed ≤ q .placed + 1)
-        × (stateOf r (now (todo .exit)) (now (arcs .exit)) (now (metres .exit)) (now (keys .exit)) (now (placings .exit))
-        (now (cases .exit)) (now (ends .exit))
-        ≡ follow (tables (now (lanes .entry)) n (now (points .entry)) (now (cumulative .entry)) (now (fans .entry)) (now (links .entry))
-        (now (sections .entry)) (now (stations .entry)) (now (places .entry)) m) ahead b
-        (stateOf q (now (todo .entry)) (now (arcs .entry)) (now (metres .entry)) (now (keys .entry)) (now (placings .entry))
-        (now (cases .entry)) (now (ends .entry)))) ⌝ }
-{
-    let flight = q.flight;
-    let i = b.lane;
-    let space = branches::room(b.up, branches::lane_length(lanes, cumulative, i), b.arc);
-    if b.remaining > space {
-        let l = Leaving {
-            lane: i,
-            up: b.up,
-            exit: branches::exit_point(lanes, points, cumulative, i, b.up),
-            left: b.left,
-            remaining: b.remaining - space,
-        };
-        let end = branches::link_end(fans, ahead, i);
-        let count = branches::link_count(fans, ahead, i);
-        let e = branches::enter_links(
-            lanes,
-            n,
-            points,
-            cumulative,
-            links,
-            end,
-            count,
-            ahead,
-            l,
-            todo,
-            arcs,
-            metres,
-            keys,
-            flight,
-        );
-        let onward = e.flight;
-        if e.any {
-            return Progress {
-                flight: onward,
-                placed: q.placed,
-            };
-        }
-        return Progress {
-            flight: onward,
-            placed: ends::place(
-                lanes,
-                points,
-                cumulative,
-                fans,
-                sections,
-                stations,
-                places,
-                m,
-                ahead,
-                b,
-                space,
-                placings,
-                cases,
-                ends,
-                q.placed,
-            ),
-        };
-    }
-    Progress {
-        flight,
-        placed: ends::place(
-            lanes,
-            points,
-            cumulative,
-            fans,
-            sections,
-            stations,
-            places,
-            m,
-            ahead,
-            b,
-            space,
-            placings,
-            cases,
-            ends,
-            q.placed,
-        ),
-    }
-}
-
-// The newest branch is taken off, and followed where its lane is in the plan.
-fn step(
-    lanes: &[usize],
-    n: usize,
-    points: &[f32],
-    cumulative: &[f32],
-    fans: &[usize],
-    links: &[usize],
-    sections: &[usize],
-    stations: &[f64],
-    places: &[usize],
-    m: usize,
-    ahead: bool,
-    todo: &mut [usize],
-    arcs: &mut [f32],
-    metres: &mut [f64],
-    keys: &mut [usize],
-    placings: &mut [usize],
-    cases: &mut [usize],
-    ends: &mut [f64],
-    q: Progress,
-) -> Progress
-    requires { ⌜ Tabled (tables (now lanes) n (now points) (now cumulative) (now fans) (now links) (now sections) (now stations)
-        (now places) m) × (0 < q .flight .todo) × (q .flight .todo ≤ q .flight .entered + 2)
-        × (q .flight .entered ≤ 1024) × (q .placed < 1026) × FrontRoom (now todo) (now arcs) (now metres) (now keys)
-        × FoundRoom (now placings) (now cases) (now ends) ⌝ }
-    ensures { λ r. ⌜ Balanced (r .flight) × (r .placed ≤ q .placed + 1)
-        × (stateOf r (now (todo .exit)) (now (arcs .exit)) (now (metres .exit)) (now (keys .exit)) (now (placings .exit))
-        (now (cases .exit)) (now (ends .exit))
-        ≡ step (tables (now (lanes .entry)) n (now (points .entry)) (now (cumulative .entry)) (now (fans .entry)) (now (links .entry))
-        (now (sections .entry)) (now (stations .entry)) (now (places .entry)) m) ahead
-        (stateOf q (now (todo .entry)) (now (arcs .entry)) (now (metres .entry)) (now (keys .entry)) (now (placings .entry))
-        (now (cases .entry)) (now (ends .entry)))) ⌝ }
-{
-    let flight = q.flight;
-    let top = flight.todo - 1;
-    let b = branches::branch_at(todo, arcs, metres, top);
-    let rest = Progress {
-        flight: Flight {
-            todo: top,
-            entered: flight.entered,
-            full: flight.full,
-        },
-        placed: q.placed,
-    };
-    if n <= b.lane {
-        return rest;
-    }
-    follow(
-        lanes,
-        n,
-        points,
-        cumulative,
-        fans,
-        links,
-        sections,
-        stations,
-        places,
-        m,
-        ahead,
-        b,
-        todo,
-        arcs,
-        metres,
-        keys,
-        placings,
-        cases,
-        ends,
-        rest,
-    )
-}
-
-// At most 1,026 steps, while branches are left and the keys fit.
-fn run(
-    lanes: &[usize],
-    n: usize,
-    points: &[f32],
-    cumulative: &[f32],
-    fans: &[usize],
-    links: &[usize],
-    sections: &[usize],
-    stations: &[f64],
-    places: &[usize],
-    m: usize,
-    ahead: bool,
-    todo: &mut [usize],
-    arcs: &mut [f32],
-    metres: &mut [f64],
-    keys: &mut [usize],
-    placings: &mut [usize],
-    cases: &mut [usize],
-    ends: &mut [f64],
-    start: Progress,
-) -> Progress
-    requires { ⌜ Tabled (tables (now lanes) n (now points) (now cumulative) (now fans) (now links) (now sections) (now stations)
-        (now places) m) × (start .flight .todo ≤ 2) × (start .flight .entered ≡ 0) × (start .placed ≡ 0)
-        × FrontRoom (now todo) (now arcs) (now metres) (now keys) × FoundRoom (now placings) (now cases) (now ends) ⌝ }
-    ensures { λ r. ⌜ (r .placed ≤ 1026)
-        × (stateOf r (now (todo .exit)) (now (arcs .exit)) (now (metres .exit)) (now (keys .exit)) (now (placings .exit))
-        (now (cases .exit)) (now (ends .exit))
-        ≡ runFrom (tables (now (lanes .entry)) n (now (points .entry)) (now (cumulative .entry)) (now (fans .entry)) (now (links .entry))
-        (now (sections .entry)) (now (stations .entry)) (now (places .entry)) m) ahead 1026
-        (stateOf start (now (todo .entry)) (now (arcs .entry)) (now (metres .entry)) (now (keys .entry)) (now (placings .entry))
-        (now (cases .entry)) (now (ends .entry)))) ⌝ }
-{
-    let mut q = start;
-    let mut k: usize = 0;
-    while k < 1026 {
-        let flight = q.flight;
-        if flight.todo == 0 {
-            return q;
-        }
-        if flight.full {
-            return q;
-        }
-        q = step(
-            lanes,
-            n,
-            points,
-            cumulative,
-            fans,
-            links,
-            sections,
-            stations,
-            places,
-            m,
-            ahead,
-            todo,
-            arcs,
-            metres,
-            keys,
-            placings,
-            cases,
-            ends,
-            q,
-        );
-        k += 1;
-    }
-    q
 }
 
 // The first branch from lane i that moves `up` it.
@@ -370,7 +110,7 @@ fn write_answers(cases: &[usize], ends: &[f64], n: usize, rows: &mut [usize], po
 }
 
 // An answer without positions.
-fn refused(number: usize) -> Advanced
+pub fn refused(number: usize) -> Advanced
     ensures { λ r. ⌜ r ≡ refusal number ⌝ }
 {
     Advanced {
@@ -455,7 +195,7 @@ fn search(
         },
         placed: 0,
     };
-    let q = run(
+    let q = explore::run(
         lanes,
         n,
         points,
@@ -480,7 +220,7 @@ fn search(
 }
 
 // Lends the arrays of a run.
-fn explore(
+fn lend_arrays(
     lanes: &[usize],
     n: usize,
     points: &[f32],
@@ -593,12 +333,12 @@ pub fn advance(
     requires { ⌜ Tabled (tables (now lanes) n (now points) (now cumulative) (now fans) (now links) (now sections) (now stations)
         (now places) m) × Bounded (now fans) (now places) m (now bounds) n ⌝ }
     ensures { λ r. ⌜ AnswerOf r (now (rows .exit)) (now (positions .exit))
-        (advanceOf (tables (now (lanes .entry)) n (now (points .entry)) (now (cumulative .entry)) (now (fans .entry)) (now (links .entry))
+        (advanceRows (tables (now (lanes .entry)) n (now (points .entry)) (now (cumulative .entry)) (now (fans .entry)) (now (links .entry))
         (now (sections .entry)) (now (stations .entry)) (now (places .entry)) m) (now (bounds .entry)) from distance
         (now (rows .entry)) (now (positions .entry))) ⌝ }
 {
     let s = from.s;
-    let i = beside::lane_row(lanes, n, from.lane);
+    let i = plan_find::find_lane(from.lane, lanes, n);
     if n <= i {
         return refused(12);
     }
@@ -614,7 +354,7 @@ pub fn advance(
         return refused(13);
     }
     let arc = arc_at(lanes, points, cumulative, sections, stations, i, j, s);
-    explore(
+    lend_arrays(
         lanes,
         n,
         points,

@@ -1,16 +1,16 @@
 -- advance.rs, `left_of` and `right_of`, by ASAM OpenDRIVE: a section's lane numbers fall from left to right, as a lane with the road's direction
 -- sees it; a Backward lane sees it reversed, and Both counts as Forward. So the lane beside is the one with the next larger or the next smaller
--- number in the section. `specs/BesideLaws.antt` shows that no lane of the section lies between. Definitions only.
-use mathlib.Core.Bool.{Bool, true, false, cond, not, _&&_, _||_}
+-- number in the section. Here by the rows of the plan's tables; `specs/InPlan.antt` has it by the plan's records. Definitions only.
+use mathlib.Core.Bool.{Bool, cond, not, _&&_, _||_}
 use mathlib.Core.List.{List}
 use Prim.Native.Nat.{ℕ, zero, suc}
 use lib.Dec.{eqb, ltb, leb}
-use lib.ListN.{getD}
 use lib.Ieee.{Float, binary64, le, ofBits}
-use Rattle.beside.specs.declared.LaneId.{LaneId}
+use Rattle.plan_format.specs.declared.LaneId.{LaneId}
+use Rattle.plan_find.specs.FirstRow.{firstRow, isLane}
+use Rattle.rows.specs.Rows.{laneNumber, directionOf, placeOf, placedLane, placedSection, raisedNumber, startOf, endOf}
 use Rattle.beside.specs.declared.LanePosition.{LanePosition}
 use Rattle.beside.specs.declared.BesideAnswer.{BesideAnswer}
-use Rattle.beside.specs.Rows.{laneNumber, directionOf, placeOf, placedLane, placedSection, openDriveNumber, startOf, endOf, rowOf}
 
 -- b lies past a, toward the larger numbers (true) or toward the smaller
 abbrev pub beyond : Bool → ℕ → ℕ → Bool
@@ -23,8 +23,8 @@ towardLarger direction side = cond (eqb direction 1) (not (eqb side 0)) (eqb sid
 -- of m places: place k stands in section j, past the number `here`, and nearer to it than place `best`, where that is a place
 abbrev pub nearerAt : List ℕ → ℕ → ℕ → ℕ → Bool → ℕ → ℕ → Bool
 nearerAt places m j here larger best k =
-    let x = openDriveNumber places k in
-    eqb (placedSection places k) j && (beyond larger here x && (leb m best || beyond larger x (openDriveNumber places best)))
+    let x = raisedNumber places k in
+    eqb (placedSection places k) j && (beyond larger here x && (leb m best || beyond larger x (raisedNumber places best)))
 
 -- the nearest of the first k places, 256 where none lies on that side
 unfoldable pub nextRow : List ℕ → ℕ → ℕ → ℕ → Bool → ℕ → ℕ
@@ -44,9 +44,12 @@ zero64 = ofBits binary64 0
 abbrev pub refusal : ℕ → BesideAnswer
 refusal number = record { number = number; at = record { lane = record { 0 = 0 }; s = zero64; offset = zero64 } }
 
--- the center of the lane in this row, at s
+-- the center of the lane with this number, and of the lane in row i, at s
+abbrev pub centerOf : ℕ → Float → BesideAnswer
+centerOf number s = record { number = 0; at = record { lane = record { 0 = number }; s = s; offset = zero64 } }
+
 abbrev pub centerAt : List ℕ → ℕ → Float → BesideAnswer
-centerAt lanes i s = record { number = 0; at = record { lane = record { 0 = laneNumber lanes i }; s = s; offset = zero64 } }
+centerAt lanes i s = centerOf (laneNumber lanes i) s
 
 abbrev pub pick : Bool → BesideAnswer → BesideAnswer → BesideAnswer
 pick b x y = cond b x y
@@ -56,8 +59,9 @@ unfoldable pub besideRow : List ℕ → ℕ → List ℕ → List ℕ → ℕ �
 besideRow lanes n fans places m bounds s side i =
     let p = placeOf fans i in
     let j = placedSection places p in
-    let r = nextRow places m j (openDriveNumber places p) (towardLarger (directionOf lanes i) side) m in
+    let r = nextRow places m j (raisedNumber places p) (towardLarger (directionOf lanes i) side) m in
     pick (ltb i n && (ltb p m && inSection bounds j s)) (pick (ltb r m) (centerAt lanes (placedLane places r) s) (refusal 15)) (refusal 12)
 
-unfoldable pub besideOf : List ℕ → ℕ → List ℕ → List ℕ → ℕ → List Float → LanePosition → ℕ → BesideAnswer
-besideOf lanes n fans places m bounds at side = besideRow lanes n fans places m bounds (at .s) side (rowOf lanes (at .lane .0) n)
+unfoldable pub besideRows : List ℕ → ℕ → List ℕ → List ℕ → ℕ → List Float → LanePosition → ℕ → BesideAnswer
+besideRows lanes n fans places m bounds at side =
+    besideRow lanes n fans places m bounds (at .s) side (firstRow (isLane lanes (at .lane .0)) n 0 256)

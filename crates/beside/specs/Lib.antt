@@ -1,5 +1,7 @@
 -- The lane beside a lane position.
-pub mod Rows
+pub mod Seated
 pub mod Beside
 pub mod BesideLaws
+pub mod InPlan
+pub mod InPlanLaws
 pub mod Cases

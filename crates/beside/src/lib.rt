@@ -1,15 +1,14 @@
 // advance.rs, `left_of` and `right_of`: the lane beside a lane position, by ASAM OpenDRIVE's order of a section's lanes. The plan stands in flat
 // tables with rows of fixed width: `lanes` (6 a row), `fans` (5), `places` (3) and `bounds` (2). `specs/` says what each function answers.
+use plan_format::LaneId;
 ghost use mathlib.Core.Path.{_≡_};
 ghost use Prim.Native.Nat.{_+_, _*_, _<_, _≤_};
 ghost use lib.ListN.{length};
-ghost use Rattle.beside.specs.Rows.{Seated, rowOf};
-ghost use Rattle.beside.specs.Beside.{beyond, towardLarger, nearerAt, nextRow, inSection, refusal, besideOf};
-
-// A lane by its number, which counts from zero.
-pub struct LaneId(pub usize);
+ghost use Rattle.beside.specs.Seated.{Seated};
+ghost use Rattle.beside.specs.Beside.{beyond, towardLarger, nearerAt, nextRow, inSection, refusal, besideRows};
 
 // A place on a lane: the road's station, and metres from the lane's center toward the left of the road.
+#[repr(C)]
 pub struct LanePosition {
     pub lane: LaneId,
     pub s: f64,
@@ -17,25 +16,10 @@ pub struct LanePosition {
 }
 
 // What `left_of` and `right_of` answer: document 01's number, 0 where there is a lane, and the position, zeros where refused.
+#[repr(C)]
 pub struct BesideAnswer {
     pub number: usize,
     pub at: LanePosition,
-}
-
-// The row of the lane with this number among the first n, or 256.
-pub fn lane_row(lanes: &[usize], n: usize, id: LaneId) -> usize
-    requires { ⌜ 6 * n ≤ length (now lanes) ⌝ }
-    ensures { λ r. ⌜ r ≡ rowOf (now (lanes .entry)) (id .0) n ⌝ }
-{
-    let number = id.0;
-    let mut k = n;
-    while 0 < k {
-        k -= 1;
-        if lanes[6 * k] == number {
-            return k;
-        }
-    }
-    256
 }
 
 // Whether b lies past a, toward the larger numbers or toward the smaller.
@@ -112,7 +96,7 @@ pub fn is_in_section(bounds: &[f64], j: usize, s: f64) -> bool
 }
 
 // An answer without a lane.
-fn refused(number: usize) -> BesideAnswer
+pub fn refused(number: usize) -> BesideAnswer
     ensures { λ r. ⌜ r ≡ refusal number ⌝ }
 {
     BesideAnswer {
@@ -137,10 +121,10 @@ pub fn beside(
     side: usize,
 ) -> BesideAnswer
     requires { ⌜ Seated (now lanes) n (now fans) (now places) m (now bounds) ⌝ }
-    ensures { λ r. ⌜ r ≡ besideOf (now (lanes .entry)) n (now (fans .entry)) (now (places .entry)) m (now (bounds .entry)) at side ⌝ }
+    ensures { λ r. ⌜ r ≡ besideRows (now (lanes .entry)) n (now (fans .entry)) (now (places .entry)) m (now (bounds .entry)) at side ⌝ }
 {
     let s = at.s;
-    let i = lane_row(lanes, n, at.lane);
+    let i = plan_find::find_lane(at.lane, lanes, n);
     if n <= i {
         return refused(12);
     }
@@ -179,7 +163,7 @@ pub fn left_of(
     at: LanePosition,
 ) -> BesideAnswer
     requires { ⌜ Seated (now lanes) n (now fans) (now places) m (now bounds) ⌝ }
-    ensures { λ r. ⌜ r ≡ besideOf (now (lanes .entry)) n (now (fans .entry)) (now (places .entry)) m (now (bounds .entry)) at 0 ⌝ }
+    ensures { λ r. ⌜ r ≡ besideRows (now (lanes .entry)) n (now (fans .entry)) (now (places .entry)) m (now (bounds .entry)) at 0 ⌝ }
 {
     beside(lanes, n, fans, places, m, bounds, at, 0)
 }
@@ -195,7 +179,7 @@ pub fn right_of(
     at: LanePosition,
 ) -> BesideAnswer
     requires { ⌜ Seated (now lanes) n (now fans) (now places) m (now bounds) ⌝ }
-    ensures { λ r. ⌜ r ≡ besideOf (now (lanes .entry)) n (now (fans .entry)) (now (places .entry)) m (now (bounds .entry)) at 1 ⌝ }
+    ensures { λ r. ⌜ r ≡ besideRows (now (lanes .entry)) n (now (fans .entry)) (now (places .entry)) m (now (bounds .entry)) at 1 ⌝ }
 {
     beside(lanes, n, fans, places, m, bounds, at, 1)
 }

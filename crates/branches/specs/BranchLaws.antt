@@ -9,11 +9,10 @@ use lib.Ieee.{Float, le}
 use borrow.Author.Tests.{ltb-true, lt-ltb, le-ltb, eq-eqb, ne-eqb}
 use Rattle.coords.specs.declared.Point.{Point}
 use Rattle.coords.specs.Coords.{zero⁺, distanceTo}
-use Rattle.beside.specs.Rows.{directionOf}
+use Rattle.rows.specs.Rows.{directionOf, lengthOf}
 use Rattle.branches.specs.declared.Branch.{Branch}
 use Rattle.branches.specs.declared.Leaving.{Leaving}
 use Rattle.branches.specs.declared.Key.{Key}
-use Rattle.branches.specs.Tables.{lengthOf}
 use Rattle.branches.specs.Branches.{headOf, tailOf, awayFrom, atEnd, isNext, upOn, branchOnto, keyOf, sameKey, holds}
 use Rattle.branches.specs.Front.{Front, enter}
 

@@ -13,11 +13,11 @@ use Rattle.coords.specs.Coords.{zero⁺, subOf, lengthSquared, distanceTo}
 use Rattle.geometry.specs.Polyline.{pointAt}
 use Rattle.geometry.specs.Locate.{pointAlong}
 use Rattle.geometry.specs.Project.{projectOf}
-use Rattle.beside.specs.Rows.{laneNumber, directionOf}
+use Rattle.rows.specs.Rows.{laneNumber, directionOf, pointsOf, arcsOf, lengthOf, firstLink, successors, predecessors}
 use Rattle.branches.specs.declared.Branch.{Branch}
 use Rattle.branches.specs.declared.Key.{Key}
 use Rattle.branches.specs.declared.Leaving.{Leaving}
-use Rattle.branches.specs.Tables.{Tables, pointsOf, arcsOf, lengthOf, firstLink, successors, predecessors, ledTo}
+use Rattle.branches.specs.Tables.{Tables, ledTo}
 
 -- ---- numbers
 
@@ -117,7 +117,8 @@ branchOnto lanes points cumulative ahead l next =
     let up = upOn lanes points cumulative ahead (l .exit) next in
     record { lane = next; arc = cond up zero⁺ (lengthOf lanes cumulative next); up = up; left = l .left; remaining = l .remaining }
 
--- by what branches that enter a lane are told apart: the lane, the end by the bits of its arc length, and the metres left and the offset in millimetres
+-- by what branches that enter a lane are told apart: the lane, the end by the bits of its arc length, and the metres left and the offset in
+-- millimetres
 unfoldable pub keyOf : List ℕ → Branch → Key
 keyOf lanes b =
     record {

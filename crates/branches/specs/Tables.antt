@@ -1,12 +1,12 @@
--- The plan's tables as `advance` reads them: a lane's points, arc lengths and links, its section's stations. Definitions only.
+-- The plan's tables as `advance` reads them, and what it needs of them; crate `rows` says how their rows are read. Definitions only.
 use mathlib.Core.List.{List, [], _∷_}
 use Prim.Native.Nat.{ℕ, zero, suc, _+_, _-_, _*_, _<_, _≤_}
-use lib.ListN.{length, getD, take, drop}
-use lib.Ieee.{Float, nan}
-use Rattle.geometry.specs.Polyline.{Line, arcLength}
+use lib.ListN.{length}
+use lib.Ieee.{Float}
+use Rattle.geometry.specs.Polyline.{Line}
 use Rattle.geometry.specs.Partition.{Rising}
-use Rattle.road.specs.AlongLaws.{Stationed}
-use Rattle.beside.specs.Rows.{placeOf, placedSection}
+use Rattle.road.specs.Along.{Stationed}
+use Rattle.rows.specs.Rows.{pointsOf, arcsOf, endPoint, firstLink, successors, predecessors, leadsTo, placeOf, placedSection, endStation, stationsOf}
 
 -- of a plan with so many lanes and places
 pub record Tables : Type 0 where
@@ -21,51 +21,10 @@ pub record Tables : Type 0 where
   pub places : List ℕ
   pub placeCount : ℕ
 
--- the entries a .. e - 1 of a list
-abbrev pub part : {A : Type 0} → List A → ℕ → ℕ → List A
-part xs a e = take (e - a) (drop a xs)
-
--- row i of `lanes`: its first point, and the end of its points
-abbrev pub firstPoint : List ℕ → ℕ → ℕ
-firstPoint lanes i = getD lanes (6 * i + 4) 0
-
-abbrev pub endPoint : List ℕ → ℕ → ℕ
-endPoint lanes i = firstPoint lanes i + getD lanes (6 * i + 5) 0
-
--- its points (x y z of each), and the arc length at each
-abbrev pub pointsOf : List ℕ → List Float → ℕ → List Float
-pointsOf lanes points i = part points (3 * firstPoint lanes i) (3 * endPoint lanes i)
-
-abbrev pub arcsOf : List ℕ → List Float → ℕ → List Float
-arcsOf lanes cumulative i = part cumulative (firstPoint lanes i) (endPoint lanes i)
-
-abbrev pub lengthOf : List ℕ → List Float → ℕ → Float
-lengthOf lanes cumulative i = arcLength (arcsOf lanes cumulative i)
-
--- row j of `sections`: the stations
-abbrev pub firstStation : List ℕ → ℕ → ℕ
-firstStation sections j = getD sections (4 * j + 2) 0
-
-abbrev pub endStation : List ℕ → ℕ → ℕ
-endStation sections j = firstStation sections j + getD sections (4 * j + 3) 0
-
-abbrev pub stationsOf : List ℕ → List Float → ℕ → List Float
-stationsOf sections stations j = part stations (firstStation sections j) (endStation sections j)
-
--- row i of `fans`: the first link, how many successors, how many predecessors after them
-abbrev pub firstLink : List ℕ → ℕ → ℕ
-firstLink fans i = getD fans (5 * i) 0
-
-abbrev pub successors : List ℕ → ℕ → ℕ
-successors fans i = getD fans (5 * i + 1) 0
-
-abbrev pub predecessors : List ℕ → ℕ → ℕ
-predecessors fans i = getD fans (5 * i + 2) 0
-
 -- the rows of the lanes that the k links before row `end` lead to, in their order; a lane that is missing has 256
 unfoldable pub ledTo : List ℕ → ℕ → ℕ → List ℕ
 ledTo links end zero = []
-ledTo links end (suc k) = getD links (2 * (end - suc k) + 1) 0 ∷ ledTo links end k
+ledTo links end (suc k) = leadsTo links (end - suc k) ∷ ledTo links end k
 
 -- ---- what an accepted plan gives
 

@@ -8,8 +8,8 @@ ghost use lib.Dec.{eqb};
 ghost use lib.ListN.{length};
 ghost use mir.Syntax.{w64};
 ghost use mir.Val.{ofZ};
-ghost use Rattle.branches.specs.Tables.{Laid, AllLaid, ledTo, endPoint, pointsOf, arcsOf, lengthOf, firstLink, successors};
-ghost use Rattle.branches.specs.Tables.{predecessors};
+ghost use Rattle.rows.specs.Rows.{endPoint, pointsOf, arcsOf, lengthOf, firstLink, successors, predecessors};
+ghost use Rattle.branches.specs.Tables.{Laid, AllLaid, ledTo};
 ghost use Rattle.branches.specs.Branches.{millimetres, sideOf, roomOf, exitOf, headOf, tailOf, awayFrom, atEnd, isNext, upOn};
 ghost use Rattle.branches.specs.Branches.{branchOnto};
 ghost use Rattle.branches.specs.Branches.{keyOf, sameKey, holds, linkEnd, linkCount};
@@ -164,7 +164,7 @@ fn away(lanes: &[usize], points: &[f32], cumulative: &[f32], i: usize, p: Point)
 }
 
 // Whether the lane `next` joins lane i at the end that a branch moving `up` it leaves by, rather than at the other.
-fn at_end(
+pub fn at_end(
     lanes: &[usize],
     points: &[f32],
     cumulative: &[f32],

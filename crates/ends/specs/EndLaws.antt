@@ -10,9 +10,9 @@ use lib.Ieee.{Float, nan, binary32, binary64, add, sub, mul, lt}
 use borrow.Author.Tests.{eq-eqb, ne-eqb, lt-ltb, le-ltb}
 use Rattle.float.specs.Choose.{minOf}
 use Rattle.float.specs.Narrow.{narrowOf}
-use Rattle.beside.specs.declared.LaneId.{LaneId}
+use Rattle.plan_format.specs.declared.LaneId.{LaneId}
 use Rattle.beside.specs.declared.LanePosition.{LanePosition}
-use Rattle.beside.specs.Rows.{placeOf}
+use Rattle.rows.specs.Rows.{placeOf}
 use Rattle.branches.specs.declared.Branch.{Branch}
 use Rattle.ends.specs.declared.Placing.{Placing}
 use Rattle.ends.specs.declared.Advance.{Advance}

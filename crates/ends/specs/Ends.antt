@@ -7,12 +7,11 @@ use lib.Ieee.{Float, binary32, binary64, add, sub, mul, lt}
 use Rattle.float.specs.Choose.{minOf}
 use Rattle.float.specs.Narrow.{narrowOf}
 use Rattle.road.specs.Along.{stationOf}
-use Rattle.beside.specs.declared.LaneId.{LaneId}
+use Rattle.plan_format.specs.declared.LaneId.{LaneId}
 use Rattle.beside.specs.declared.LanePosition.{LanePosition}
-use Rattle.beside.specs.Rows.{laneNumber, placeOf, placedSection}
+use Rattle.rows.specs.Rows.{laneNumber, placeOf, placedSection, pointsOf, stationsOf}
 use Rattle.beside.specs.Beside.{zero64}
 use Rattle.branches.specs.declared.Branch.{Branch}
-use Rattle.branches.specs.Tables.{pointsOf, stationsOf}
 use Rattle.branches.specs.Branches.{millimetres, sideOf, holds}
 use Rattle.ends.specs.declared.Placing.{Placing}
 use Rattle.ends.specs.declared.Advance.{Advance}
@@ -52,7 +51,7 @@ pub record Found : Type 0 where
   pub placed : List Placing
   pub out : List Advance
 
--- the road's station after as many of the metres left as the lane has
+-- the lane's arc length after as many of the metres left as the lane has
 unfoldable pub endArc : Branch → Float → Float
 endArc b room =
     let moved = narrowOf (minOf (b .remaining) room) in

@@ -4,7 +4,7 @@ use Prim.Native.Nat.{ℕ, _+_, _*_, _≤_}
 use lib.Dec.{eqb}
 use lib.ListN.{length, getD}
 use lib.Ieee.{Float, nan}
-use Rattle.beside.specs.declared.LaneId.{LaneId}
+use Rattle.plan_format.specs.declared.LaneId.{LaneId}
 use Rattle.beside.specs.declared.LanePosition.{LanePosition}
 use Rattle.branches.specs.Held.{heldBy}
 use Rattle.ends.specs.declared.Placing.{Placing}

@@ -1,14 +1,14 @@
 // advance.rs: where branches end, and the places they give. `specs/Ends.antt` says what each function answers, `specs/Held.antt` how the
 // arrays hold the places.
-use beside::LaneId;
 use beside::LanePosition;
 use branches::Branch;
+use plan_format::LaneId;
 ghost use mathlib.Core.Path.{_≡_};
 ghost use mathlib.Core.List.{_∷_};
 ghost use Prim.Native.Nat.{_+_, _*_, _<_, _≤_};
 ghost use lib.ListN.{length};
 ghost use lib.Ieee.{nan};
-ghost use Rattle.beside.specs.Rows.{placeOf};
+ghost use Rattle.rows.specs.Rows.{placeOf};
 ghost use Rattle.branches.specs.Tables.{Laid, Ending};
 ghost use Rattle.branches.specs.Branches.{holds};
 ghost use Rattle.ends.specs.Ends.{caseOf, positionOf, shortOf, placingOf, samePlacing, endArc, endPosition, endOf, give, place};

@@ -62,7 +62,7 @@ units-sign f s q k = go (ltb (q * 2 ^ k) (2 ^ (low f + suc (emax f)))) q
     go true zero = unfold odd in (refl, tt)
     go true (suc q) = unfold odd in (refl, tt)
 
-round-sign : (f : Format) (s : Bool) (a c : ℕ) → (isNegative (round f s a c) ≡ s) × T (not (isNan (round f s a c)))
+pub round-sign : (f : Format) (s : Bool) (a c : ℕ) → (isNegative (round f s a c) ≡ s) × T (not (isNan (round f s a c)))
 round-sign f s a c =
     let n = a * 2 ^ low f in
     let k = size (n / c) - prec f in

@@ -74,6 +74,15 @@ not-a-number : locateOf arcs nan ≡ at 0 nan
 unfolding locateOf segmentOf localT leading sub div lt le ofBits
 not-a-number = refl
 
+-- before the start the first point; NaN is no arc length, and its place none
+before-place : pointAlong line arcs minus-one ≡ place o o o
+unfolding pointAlong locateOf segmentOf localT leading pointAt add sub mul div lt le ofBits
+before-place = refl
+
+nowhere : pointAlong line arcs nan ≡ place nan nan nan
+unfolding pointAlong locateOf segmentOf localT leading pointAt add sub mul div lt le ofBits
+nowhere = refl
+
 -- ---- a repeated point
 abbrev twice : List Float
 twice = f 0x80000000 ∷ o ∷ o ∷ o ∷ o ∷ o ∷ eight ∷ o ∷ o ∷ []

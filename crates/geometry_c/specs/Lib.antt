@@ -1,1 +1,2 @@
--- No definitions of its own.
+-- What C takes in place of an enum.
+pub mod Centerline

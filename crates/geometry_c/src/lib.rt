@@ -4,15 +4,23 @@ use geometry::Ends;
 use geometry::Located;
 use geometry::Pose;
 use geometry::Projection;
+use road::OnLane;
 ghost use mathlib.Core.Path.{_≡_};
 ghost use Prim.Native.Nat.{_*_, _≤_, _<_};
 ghost use lib.ListN.{length};
 ghost use Rattle.geometry.specs.Polyline.{Line, cumulativeOf, tangentsOf};
 ghost use Rattle.geometry.specs.Partition.{Rising};
 ghost use Rattle.geometry.specs.Locate.{locateOf, pointAlong, poseAlong};
-ghost use Rattle.geometry.specs.Project.{projectSegments};
-ghost use Rattle.road.specs.Along.{alongOf, stationOf};
-ghost use Rattle.road.specs.AlongLaws.{Stationed};
+ghost use Rattle.geometry.specs.Project.{projectSegments, projectOf};
+ghost use Rattle.road.specs.Along.{Stationed, alongOf, stationOf, centerlineOf};
+ghost use Rattle.geometry_c.specs.Centerline.{asCenterline};
+
+// `OnLane` for C: whether the station lies on the section, and how far along the centerline it is, 0 where it does not.
+#[repr(C)]
+pub struct Centerline {
+    pub on: bool,
+    pub s: f32,
+}
 
 #[no_mangle]
 pub extern "C" fn kartsodi_write_cumulative(points: &[f32], cumulative: &mut [f32])
@@ -79,6 +87,14 @@ pub extern "C" fn kartsodi_project_segments(
 }
 
 #[no_mangle]
+pub extern "C" fn kartsodi_project(points: &[f32], cumulative: &[f32], p: Point) -> Projection
+    requires { ⌜ Line (now points) (now cumulative) ⌝ }
+    ensures { λ r. ⌜ r ≡ projectOf (now (points .entry)) (now (cumulative .entry)) p ⌝ }
+{
+    geometry::project(points, cumulative, p)
+}
+
+#[no_mangle]
 pub extern "C" fn kartsodi_along(
     points: &[f32],
     cumulative: &[f32],
@@ -102,4 +118,22 @@ pub extern "C" fn kartsodi_station_at(
     ensures { λ r. ⌜ r ≡ stationOf (now (points .entry)) (now (stations .entry)) arc ⌝ }
 {
     road::station_at(points, cumulative, stations, arc)
+}
+
+#[no_mangle]
+pub extern "C" fn kartsodi_centerline_s(
+    start: f64,
+    end: f64,
+    points: &[f32],
+    cumulative: &[f32],
+    stations: &[f64],
+    s: f64,
+) -> Centerline
+    requires { ⌜ Stationed (now points) (now cumulative) (now stations) ⌝ }
+    ensures { λ r. ⌜ r ≡ asCenterline (centerlineOf start end (now (points .entry)) (now (stations .entry)) s) ⌝ }
+{
+    match road::centerline_s(start, end, points, cumulative, stations, s) {
+        OnLane::At(along) => Centerline { on: true, s: along },
+        OnLane::Off => Centerline { on: false, s: 0.0 },
+    }
 }

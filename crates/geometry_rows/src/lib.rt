@@ -70,7 +70,8 @@ pub fn build_cumulative(lanes: &[usize], n: usize, points: &[f32], cumulative: &
 // Writes the tangents of n lanes.
 pub fn build_tangents(lanes: &[usize], n: usize, points: &[f32], ends: &[f32], tangents: &mut [f32])
     requires { ⌜ Rows (now lanes) n (now points) × TangentRoom (now lanes) n (now ends) (now tangents) ⌝ }
-    ensures { λ _. ⌜ now (tangents .exit) ≡ over (tangentRows (now (lanes .entry)) (now (points .entry)) (now (ends .entry)) n) (now (tangents .entry)) ⌝ }
+    ensures { λ _. ⌜ now (tangents .exit)
+        ≡ over (tangentRows (now (lanes .entry)) (now (points .entry)) (now (ends .entry)) n) (now (tangents .entry)) ⌝ }
 {
     let mut i = 0;
     while i < n {

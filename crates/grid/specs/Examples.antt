@@ -16,19 +16,19 @@ f = ofBits binary32
 -- ---- P: bucket, cell 1, count 4: -1 gives 0, 3.5 gives 3, 9 gives 3; NaN gives 0
 
 below : bucket (f 0xbf800000) (f 0x3f800000) 4 ≡ 0
-unfolding f bucket div toUnsigned ofBits
+unfolding f bucket div lt isNan toUnsigned ofBits
 below = refl
 
 within : bucket (f 0x40600000) (f 0x3f800000) 4 ≡ 3
-unfolding f bucket div toUnsigned ofBits
+unfolding f bucket div lt isNan toUnsigned ofBits
 within = refl
 
 above : bucket (f 0x41100000) (f 0x3f800000) 4 ≡ 3
-unfolding f bucket div toUnsigned ofBits
+unfolding f bucket div lt isNan toUnsigned ofBits
 above = refl
 
 no-number : bucket nan (f 0x3f800000) 4 ≡ 0
-unfolding f bucket div toUnsigned ofBits
+unfolding f bucket div lt isNan toUnsigned ofBits
 no-number = refl
 
 -- ---- rings

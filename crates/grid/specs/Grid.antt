@@ -1,12 +1,13 @@
 -- grid.rs: boxes, and the dimensions of the uniform grid over them. Definitions only.
 -- Each `+`, `-`, `*` and `/` of an f32 is IEEE 754's (`lib.Ieee` at binary32), rounded once.
 use Prim.Native.Nat.{ℕ, _-_, _<_, _≤_, min, max}
+use mathlib.Core.Bool.{cond, _||_}
 use mathlib.Core.List.{List, [], _∷_}
 use lib.IntN.{pos}
-use lib.Ieee.{Float, binary32, add, sub, mul, div, ofBits, ofInt, toUnsigned}
+use lib.Ieee.{Float, binary32, add, sub, mul, div, lt, isNan, ofBits, ofInt, toUnsigned}
 use Rattle.float.specs.Root.{sqrtOf}
 use Rattle.float.specs.Choose.{maxOf, minOf}
-use Rattle.float.specs.Whole.{ceilOf}
+use Rattle.float.specs.Whole.{ceilOf, floorOf}
 use Rattle.coords.specs.Coords.{zero⁺, one⁺}
 use Rattle.grid.specs.declared.Aabb.{Aabb}
 use Rattle.grid.specs.declared.Grid.{Grid}
@@ -101,9 +102,12 @@ gridOf extent items =
 
 -- ---- cells
 
--- `floor` and then `as usize` is `toUnsigned 64` for what is not below zero, and it gives 0 for NaN and for what is
+-- the cell of an offset: NaN and what is below zero go to the first, and what is above the last to that
 unfoldable pub bucket : Float → Float → ℕ → ℕ
-bucket offset cell count = min (toUnsigned 64 (div binary32 offset cell)) (count - 1)
+unfolding floorOf
+bucket offset cell count =
+    let i = floorOf (div binary32 offset cell) in
+    cond (isNan i || lt i zero⁺) 0 (min (toUnsigned 64 i) (count - 1))
 
 abbrev pub colOf : Grid → Float → ℕ
 colOf g x = bucket (sub binary32 x (g .«min_x»)) (g .cell) (g .cols)

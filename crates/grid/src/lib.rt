@@ -242,7 +242,7 @@ fn side(cells: f32) -> usize
 }
 
 // The cell that holds `offset`, of `count` cells: NaN and negatives go to 0, the last cell takes what is above.
-// Rust's `floor` before the cast changes nothing: the cast drops the fraction of what is not negative, and sends the rest to 0.
+// Rust's `floor` and its tests before the cast change nothing (proofs/Buckets.antt).
 pub fn bucket(offset: f32, cell: f32, count: usize) -> usize
     requires { ⌜ 0 < count ⌝ }
     ensures { λ r. ⌜ r ≡ bucket offset cell count ⌝ }

@@ -6,3 +6,4 @@ pub mod Adding
 pub mod Index
 pub mod Walk
 pub mod Limits
+pub mod Found

@@ -6,10 +6,12 @@ use Prim.Native.Nat.{ℕ}
 use lib.Count.{trailingZeros}
 use lib.IntN.{pos}
 use lib.Ieee.{Float, add, fin, lt, odd, ofBits, round, size, sum, units}
-use Rattle.search.specs.LaneGraph.{LaneGraph, edges, laneGraph, numberOf, out, searchedIn}
+use Rattle.plan_format.specs.Plan.{indexOf}
+use Rattle.plan_format.specs.Records.{Link}
+use Rattle.rows.specs.Rows.{laneNumber}
+use Rattle.search.specs.LaneGraph.{LaneGraph, edges, laneGraph, out, searchedIn}
 use Rattle.search.specs.Search.{Result, blank, expanded, found, leastOpen, marked, rebuild, refused, relaxed, run, searched, settled}
 use Rattle.optimality.specs.Chains.{addSteps, chainCost, hasLink, isChain, leadsTo, stepCost}
-use Rattle.optimality.specs.Records.{Link, indexOf}
 
 -- 8, 16, 30 and 32 m
 abbrev m8 : Float
@@ -58,7 +60,7 @@ loneGraph = laneGraph 1 (fan 0 0 0 []) [] (m8 ∷ [])
 -- what the search finds, with the numbers of its lanes
 abbrev numbered : List ℕ → Result Float → Result Float
 numbered lanes refused = refused
-numbered lanes (found chain cost) = found (map (numberOf lanes) chain) cost
+numbered lanes (found chain cost) = found (map (laneNumber lanes) chain) cost
 
 -- chain 1, 3, 4; cost 30; chain 1, 1; none
 searches : (numbered fourLanes (searchedIn fourLanes fourGraph 0 3) ≡ found (1 ∷ 3 ∷ 4 ∷ []) m16)

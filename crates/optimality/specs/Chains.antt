@@ -1,12 +1,17 @@
--- Document 01, "The reader's chains": chains of link records and what they cost. Lanes go by their numbers; nothing here is of the search.
+-- Document 01, "The reader's chains": chains of link records and what they cost. Lanes go by their numbers; nothing here is of
+-- the search but the constant 30.
 use mathlib.Core.Bool.{Bool, cond, false, true, _&&_, _||_}
-use mathlib.Core.List.{List, [], _∷_}
+use mathlib.Core.List.{List, [], map, _∷_}
 use mathlib.Core.Path.{_≡_}
 use Prim.Native.Nat.{ℕ, _≤_}
 use lib.Dec.{eqb}
 use lib.Ieee.{Float, add, binary32, le, lt, nan, ofBits}
 use lib.ListN.{getD, length}
-use Rattle.optimality.specs.Records.{Link, indexOf}
+use Rattle.geometry.specs.Polyline.{arcLength}
+use Rattle.plan_format.specs.Plan.{Plan, indexOf, numberOf}
+use Rattle.plan_format.specs.Records.{Lane, Link}
+use Rattle.search.specs.LaneGraph.{laneChange}
+use Rattle.tables.specs.LaneTables.{cumulativeRow}
 
 -- there is a link record of this role from lane u to lane v
 unfoldable pub hasLink : List Link → ℕ → ℕ → ℕ → Bool
@@ -28,21 +33,17 @@ isChain links start goal [] = false
 isChain links start goal (u ∷ []) = false
 isChain links start goal (u ∷ (v ∷ vs)) = eqb u start && leadsTo links goal u (v ∷ vs)
 
--- what a lane change costs: 30
-abbrev pub thirty : Float
-thirty = ofBits binary32 0x41f00000
-
 -- the plan's lanes have these numbers and, in the same order, these f32 lengths
 module _ (numbers : List ℕ) (lengths : List Float) (links : List Link) where
   abbrev pub laneLength : ℕ → Float
   laneLength u = getD lengths (indexOf u numbers 0 256) nan
 
-  -- a step costs the length of the lane left for role 0 and 30 for role 2, the cheaper where both stand
+  -- a step costs the length of the lane left for role 0 and 30 (`laneChange`) for role 2, the cheaper where both stand
   unfoldable pub stepCost : ℕ → ℕ → Float
   stepCost u v =
       cond (hasLink links 0 u v)
-      (cond (hasLink links 2 u v) (cond (lt thirty (laneLength u)) thirty (laneLength u)) (laneLength u))
-      thirty
+      (cond (hasLink links 2 u v) (cond (lt laneChange (laneLength u)) laneChange (laneLength u)) (laneLength u))
+      laneChange
 
   -- a chain's cost adds its steps in f32, first to last, from 0
   unfoldable pub addSteps : Float → ℕ → List ℕ → Float
@@ -60,3 +61,20 @@ module _ (numbers : List ℕ) (lengths : List Float) (links : List Link) where
     pub least : ok ≡ true → (other : List ℕ) → isChain links start goal other ≡ true → le cost (chainCost other) ≡ true
     pub fits : ok ≡ true → length chain ≤ 257
     pub refused : ok ≡ false → (other : List ℕ) → isChain links start goal other ≡ false
+
+-- ---- for a plan
+-- the numbers of its lanes and their f32 lengths, in file order
+abbrev pub numbersOf : Plan → List ℕ
+numbersOf p = map numberOf (p .lanes)
+
+abbrev pub lengthOf : Lane → Float
+lengthOf l = arcLength (cumulativeRow l)
+
+abbrev pub lengthsOf : Plan → List Float
+lengthsOf p = map lengthOf (p .lanes)
+
+abbrev pub chainCostIn : Plan → List ℕ → Float
+chainCostIn p chain = chainCost (numbersOf p) (lengthsOf p) (p .links) chain
+
+abbrev pub OptimalIn : Plan → ℕ → ℕ → Bool → List ℕ → Float → Type 0
+OptimalIn p start goal ok chain cost = Optimal (numbersOf p) (lengthsOf p) (p .links) start goal ok chain cost

@@ -2,8 +2,8 @@
 -- * What the search asks of costs, and that f32 costs meet it (Laws).
 -- * What a turn of the search does, and what holds between turns (Relaxing, Least, Invariant).
 -- * What it finds is a cheapest walk along its links, and it refuses only where there is none (Walks, Correct).
--- * The heap form of route.rs ends, and answers the same (Heap, HeapSame).
--- * The reader's chains of document 01 (Records, Chains), and the theorem: over the tables of an accepted plan the answer is a chain of
+-- * The heap form of route.rs ends, and answers the same (Heap, HeapSame); its order is `Ord for State` (HeapOrder).
+-- * The reader's chains of document 01 (Chains), and the theorem: over the tables of an accepted plan the answer is a chain of
 --   link records, no other chain costs less, and it is refused exactly where there is none (Rows, Optimality).
 pub mod Laws
 pub mod Relaxing
@@ -13,8 +13,9 @@ pub mod Walks
 pub mod Correct
 pub mod Heap
 pub mod HeapSame
-pub mod Records
+pub mod HeapOrder
 pub mod Chains
 pub mod Rows
 pub mod Optimality
+pub mod Plans
 pub mod Cases

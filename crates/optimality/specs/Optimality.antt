@@ -1,38 +1,40 @@
--- THE THEOREM of demand 3: over the tables of an accepted plan, what `lane_path` answers is optimal among all chains of link records.
+-- What the search finds over tables that hold a plan's lanes and links is optimal among all chains of link records.
 use mathlib.Core.Bool.{Bool, cond, false, true, true≢false, _&&_, _||_}
 use mathlib.Core.List.{List, List·Memᴰ, List·Memᴰ·append-cases, Memᴰ·append-left, Memᴰ·append-right, append-nil, map, [], _++_, _∷_}
-use mathlib.Core.Logic.{inl, inr, ⊎-elim, _⊎_, _≢_}
+use mathlib.Core.Logic.{inl, inr, ⊎-elim, _⊎_}
 use mathlib.Core.Path.{ap, ap₂, refl, subst, sym, _∙_, _≡_}
-use Prim.Native.Nat.{suc, ℕ, _*_, _+_, _-_, _^_, _<_, _≤_}
+use Prim.Native.Nat.{suc, ℕ, _*_, _+_, _^_, _<_, _≤_}
 use native.Mathlib.Nat.{le-antisymm, le-refl, mul-le-mul-right}
 use native.Mathlib.Omega.{arith}
 use lib.Dec.{T, eqb, ltb, lit≤}
 use lib.Ieee.{Float, add, binary32, eq, fits, inf, le, lt, nan, ofBits}
-use lib.ListN.{getD, length, length-map, replicate, take}
-use lib.Seq.{take-append-seam}
+use lib.ListN.{getD, length, length-map}
 use borrow.Author.Tests.{eq-eqb, eqb-true, le-ltb, lt-ltb, ltb-false, ltb-true}
 use Rattle.exact.specs.Fractions.{eq-units}
 use Rattle.exact.specs.Sums.{Cost, LinkCost, cost-lt, cost-unique, link-cost, link-cost-finite, up-to}
 use Rattle.exact.specs.Values.{U, U-pos, size-of}
-use Rattle.search.specs.declared.Answer.{Answer}
-use Rattle.search.specs.LaneGraph.{LaneGraph, answerOf, edges, f32Costs, firstLink, firstNeighbour, laneChange, lengthOf, neighbours}
-use Rattle.search.specs.LaneGraph.{numberOf, out, searchedIn, successors}
+use Rattle.plan_format.specs.Laws.{and-both, and-fst, and-snd}
+use Rattle.plan_format.specs.Plan.{indexOf}
+use Rattle.plan_format.specs.Records.{Link}
+use Rattle.plan_format.specs.Tables.{linked}
+use Rattle.rows.specs.Rows.{firstLink, firstNeighbour, laneNumber, neighbours, successors}
+use Rattle.rows.specs.Rows as rows
+use Rattle.search.specs.LaneGraph.{LaneGraph, edges, f32Costs, laneChange, lengthOf, out, searchedIn}
 use Rattle.search.specs.Search.{Edge, Result, found, refused}
-use Rattle.optimality.specs.Chains.{Optimal, addSteps, chainCost, hasLink, isChain, isStep, laneLength, leadsTo, stepCost, thirty}
+use Rattle.optimality.specs.Chains.{Optimal, addSteps, chainCost, hasLink, isChain, isStep, laneLength, leadsTo, stepCost}
 use Rattle.optimality.specs.Correct.{search-correct}
 use Rattle.optimality.specs.Heap.{Ends, Frontier, Runs, begun}
 use Rattle.optimality.specs.HeapSame.{heap-finishes, heap-same}
 use Rattle.optimality.specs.Invariant.{Linking}
 use Rattle.optimality.specs.Laws.{f32-laws}
-use Rattle.optimality.specs.Records.{Link, indexOf, linked}
-use Rattle.optimality.specs.Rows.{Accepted, Tabled, cheapest-steps, edges-are, numberAt, or-right, row, row-below, row-link}
+use Rattle.optimality.specs.Rows.{ChainsOk, Tabled, cheapest-steps, edges-are, numberAt, or-right, row, row-below, row-link}
 use Rattle.optimality.specs.Rows.{row-number, rowLink, steps-are, steps-linked, stepsTo}
 use Rattle.optimality.specs.Walks.{Correct, IsWalk, Linked, Walk, cheapest, costFrom, walk-cost, walkCost}
 
 -- ---- costs
-change-cost : LinkCost thirty
+change-cost : LinkCost laneChange
 unfolding ofBits fits
-change-cost = up-to (2 ^ 27 * U) (30 * U) thirty tt (refl, value U) (mul-le-mul-right U (lit≤ tt))
+change-cost = up-to (2 ^ 27 * U) (30 * U) laneChange tt (refl, value U) (mul-le-mul-right U (lit≤ tt))
   where
     value : (u : ℕ) → 15 * 2 * u ≡ 30 * u * 1
     value u = omega arith
@@ -74,11 +76,7 @@ either-way a b p q = go (lt a b) (lt b a) refl refl
 
 -- ---- tests
 and-true : (a b : Bool) → (a && b) ≡ true → (a ≡ true) × (b ≡ true)
-and-true true b e = (refl, e)
-and-true false b e = absurd (true≢false (sym e))
-
-both-true : (a b : Bool) → a ≡ true → b ≡ true → (a && b) ≡ true
-both-true a b p q = ap (λ (x : Bool). x && b) p ∙ q
+and-true a b e = (and-fst a b e, and-snd a b e)
 
 or-cases : (a b : Bool) → (a || b) ≡ true → (a ≡ true) ⊎ (b ≡ true)
 or-cases true b e = inl refl
@@ -105,7 +103,7 @@ lane-left numbers (z ∷ zs) role x y there h =
     go false e ih h = ih h
 
 module _ (numbers : List ℕ) (lengths : List Float) (links : List Link) (lanes : List ℕ) (G : LaneGraph)
-    (A : Accepted numbers lengths links) (T : Tabled numbers lengths links lanes G) where
+    (A : ChainsOk numbers lengths links) (T : Tabled numbers lengths links lanes G) where
   abbrev n : ℕ
   n = length numbers
 
@@ -125,24 +123,24 @@ module _ (numbers : List ℕ) (lengths : List Float) (links : List Link) (lanes 
   stepsAt role u w = stepsTo numbers (A .few) (A .distinct) w (linked links (N u) role)
 
   -- ---- the links of the tables are the link records
-  out-are : (u : ℕ) → u < n → out G u ≡ stepsAt 0 u (len u) ++ stepsAt 2 u thirty
+  out-are : (u : ℕ) → u < n → out G u ≡ stepsAt 0 u (len u) ++ stepsAt 2 u laneChange
   unfolding out
   out-are u l = ap₂ _++_ firsts lasts
     where
       of-rows : (w : Float) (ts : List ℕ) (first : ℕ)
-          → ((j : ℕ) → j < length ts → getD (G .links) (2 * (first + j) + 1) 0 ≡ R (getD ts j 0))
+          → ((j : ℕ) → j < length ts → rows.leadsTo (G .links) (first + j) ≡ R (getD ts j 0))
           → edges (G .links) (G .count) w first (length ts) ≡ stepsTo numbers (A .few) (A .distinct) w ts
       of-rows w ts first h = edges-are numbers (A .few) (A .distinct) (G .links) (G .count) w ts first (T .count) h
 
-      firsts : edges (G .links) (G .count) (lengthOf G u) (firstLink G u) (successors G u) ≡ stepsAt 0 u (len u)
+      firsts : edges (G .links) (G .count) (lengthOf G u) (firstLink (G .fans) u) (successors (G .fans) u) ≡ stepsAt 0 u (len u)
       firsts =
-          ap₂ (λ (w : Float) (k : ℕ). edges (G .links) (G .count) w (firstLink G u) k) (T .long u l) (T .successors-count u l)
-          ∙ of-rows (len u) (linked links (N u) 0) (firstLink G u) (λ j h. T .successor-row u j l h)
+          ap₂ (λ (w : Float) (k : ℕ). edges (G .links) (G .count) w (firstLink (G .fans) u) k) (T .long u l) (T .successors-count u l)
+          ∙ of-rows (len u) (linked links (N u) 0) (firstLink (G .fans) u) (λ j h. T .successor-row u j l h)
 
-      lasts : edges (G .links) (G .count) laneChange (firstNeighbour G u) (neighbours G u) ≡ stepsAt 2 u thirty
+      lasts : edges (G .links) (G .count) laneChange (firstNeighbour (G .fans) u) (neighbours (G .fans) u) ≡ stepsAt 2 u laneChange
       lasts =
-          ap (λ (k : ℕ). edges (G .links) (G .count) thirty (firstNeighbour G u) k) (T .neighbours-count u l)
-          ∙ of-rows thirty (linked links (N u) 2) (firstNeighbour G u) (λ j h. T .neighbour-row u j l h)
+          ap (λ (k : ℕ). edges (G .links) (G .count) laneChange (firstNeighbour (G .fans) u) k) (T .neighbours-count u l)
+          ∙ of-rows laneChange (linked links (N u) 2) (firstNeighbour (G .fans) u) (λ j h. T .neighbour-row u j l h)
 
   of-step : (u : ℕ) → u < n → (e : Edge Float) → List·Memᴰ e (out G u)
       → ((linkAt 0 u (e .to) ≡ true) ⊎ (linkAt 2 u (e .to) ≡ true)) × LinkCost (e .cost) × (e .to < n)
@@ -150,7 +148,7 @@ module _ (numbers : List ℕ) (lengths : List Float) (links : List Link) (lanes 
       ⊎-elim
       (λ m′. let p = steps-are numbers (A .few) (A .distinct) 0 u (len u) links e m′ in
       (inl (p .0), subst LinkCost (sym (p .1)) (A .long u l), p .2))
-      (λ m′. let p = steps-are numbers (A .few) (A .distinct) 2 u thirty links e m′ in
+      (λ m′. let p = steps-are numbers (A .few) (A .distinct) 2 u laneChange links e m′ in
       (inr (p .0), subst LinkCost (sym (p .1)) change-cost, p .2))
       (List·Memᴰ·append-cases (stepsAt 0 u (len u)) (subst (λ (es : List (Edge Float)). List·Memᴰ e es) (out-are u l) m))
 
@@ -173,10 +171,10 @@ module _ (numbers : List ℕ) (lengths : List Float) (links : List Link) (lanes 
           steps-linked numbers (A .few) (A .distinct) role u w links v lv (row-link numbers (A .few) (A .distinct) links role u v lv ∙ p)
 
       go : (hasLink links 0 (N u) (N v) ≡ true) ⊎ (hasLink links 2 (N u) (N v) ≡ true)
-          → Linked (stepsAt 0 u (len u) ++ stepsAt 2 u thirty) v
+          → Linked (stepsAt 0 u (len u) ++ stepsAt 2 u laneChange) v
       go (inl p) = let r = at 0 (len u) p in record { edge = r .edge; mem = Memᴰ·append-left _ (r .mem); leads = r .leads }
       go (inr p) =
-          let r = at 2 thirty p in record { edge = r .edge; mem = Memᴰ·append-right (stepsAt 0 u (len u)) (r .mem); leads = r .leads }
+          let r = at 2 laneChange p in record { edge = r .edge; mem = Memᴰ·append-right (stepsAt 0 u (len u)) (r .mem); leads = r .leads }
 
   linked-inside : (u v : ℕ) → u < n → Linked (out G u) v → v < n
   linked-inside u v lu l = subst (λ (x : ℕ). x < n) (l .leads) (of-step u lu (l .edge) (l .mem) .2)
@@ -194,13 +192,13 @@ module _ (numbers : List ℕ) (lengths : List Float) (links : List Link) (lanes 
       go (inr p) = or-right (hasLink links 0 (N u) (N v)) (hasLink links 2 (N u) (N v)) (at 2 p)
 
   -- ---- a step costs the cheapest link
-  neighbour-cost : (u v : ℕ) → v < n → cheapest f32Costs (stepsAt 2 u thirty) v ≡ cond (linkAt 2 u v) thirty (inf false)
+  neighbour-cost : (u v : ℕ) → v < n → cheapest f32Costs (stepsAt 2 u laneChange) v ≡ cond (linkAt 2 u v) laneChange (inf false)
   unfolding cheapest lt ofBits
   neighbour-cost u v lv =
-      ap (λ (x : List (Edge Float)). cheapest f32Costs x v) (sym (append-nil (stepsAt 2 u thirty)))
-      ∙ cheapest-steps numbers (A .few) (A .distinct) 2 u thirty [] v lv (not-less-itself thirty change-cost) links ∙ go (linkAt 2 u v)
+      ap (λ (x : List (Edge Float)). cheapest f32Costs x v) (sym (append-nil (stepsAt 2 u laneChange)))
+      ∙ cheapest-steps numbers (A .few) (A .distinct) 2 u laneChange [] v lv (not-less-itself laneChange change-cost) links ∙ go (linkAt 2 u v)
     where
-      go : (b : Bool) → cond (b && true) thirty (inf false) ≡ cond b thirty (inf false)
+      go : (b : Bool) → cond (b && true) laneChange (inf false) ≡ cond b laneChange (inf false)
       go true = refl
       go false = refl
 
@@ -212,12 +210,12 @@ module _ (numbers : List ℕ) (lengths : List Float) (links : List Link) (lanes 
   unfolding stepCost
   cheapest-is u v lu lv h =
       ap (λ (es : List (Edge Float)). cheapest f32Costs es v) (out-are u lu)
-      ∙ cheapest-steps numbers (A .few) (A .distinct) 0 u w (stepsAt 2 u thirty) v lv (not-less-itself w (A .long u lu)) links
+      ∙ cheapest-steps numbers (A .few) (A .distinct) 0 u w (stepsAt 2 u laneChange) v lv (not-less-itself w (A .long u lu)) links
       ∙ ap (λ (y : Float). cond (linkAt 0 u v && lt w y) w y) (neighbour-cost u v lv)
-      ∙ ap₂ (λ (a b : Bool). cond (a && lt w (cond b thirty (inf false))) w (cond b thirty (inf false))) (same 0) (same 2)
+      ∙ ap₂ (λ (a b : Bool). cond (a && lt w (cond b laneChange (inf false))) w (cond b laneChange (inf false))) (same 0) (same 2)
       ∙ go (hasLink links 0 (N u) (N v)) (hasLink links 2 (N u) (N v)) h
-      ∙ ap (λ (y : Float). cond (hasLink links 0 (N u) (N v)) (cond (hasLink links 2 (N u) (N v)) (cond (lt thirty y) thirty y) y)
-      thirty) (sym (lane-length u lu))
+      ∙ ap (λ (y : Float). cond (hasLink links 0 (N u) (N v)) (cond (hasLink links 2 (N u) (N v)) (cond (lt laneChange y) laneChange y) y)
+      laneChange) (sym (lane-length u lu))
     where
       w : Float
       w = len u
@@ -232,9 +230,9 @@ module _ (numbers : List ℕ) (lengths : List Float) (links : List Link) (lanes 
       same role = row-link numbers (A .few) (A .distinct) links role u v lv
 
       go : (a b : Bool) → (a || b) ≡ true
-          → cond (a && lt w (cond b thirty (inf false))) w (cond b thirty (inf false)) ≡ cond a (cond b (cond (lt thirty w) thirty w) w)
-          thirty
-      go true true p = either-way w thirty cost (inr (link-cost thirty change-cost))
+          → cond (a && lt w (cond b laneChange (inf false))) w (cond b laneChange (inf false)) ≡ cond a (cond b (cond (lt laneChange w) laneChange w) w)
+          laneChange
+      go true true p = either-way w laneChange cost (inr (link-cost laneChange change-cost))
       go true false p = rw finite refl
       go false true p = refl
       go false false p = absurd (true≢false (sym p))
@@ -276,7 +274,7 @@ module _ (numbers : List ℕ) (lengths : List Float) (links : List Link) (lanes 
     unfolding leadsTo
     of-walk [] u lu h = eq-eqb (N u) (N goal) (ap N h)
     of-walk (v ∷ vs) u lu h =
-        both-true (isStep links (N u) (N v)) _ (linked-step u v lu (h .0)) (of-walk vs v (linked-inside u v lu (h .0)) (h .1))
+        and-both (isStep links (N u) (N v)) _ (linked-step u v lu (h .0)) (of-walk vs v (linked-inside u v lu (h .0)) (h .1))
 
     cost-rows : (vs : List ℕ) (u : ℕ) (c : Float) → u < n → Walk (out G) goal u vs
         → costFrom f32Costs (out G) c u vs ≡ addSteps numbers lengths links c (N u) (map N vs)
@@ -302,7 +300,7 @@ module _ (numbers : List ℕ) (lengths : List Float) (links : List Link) (lanes 
     walk-chain [] h = absurd h
     walk-chain (u ∷ []) h = absurd h
     walk-chain (u ∷ (v ∷ vs)) h =
-        both-true (eqb (N u) (N start)) _ (eq-eqb (N u) (N start) (ap N (h .0))) (of-walk (v ∷ vs) u (rw (h .0) ls) (h .1))
+        and-both (eqb (N u) (N start)) _ (eq-eqb (N u) (N start) (ap N (h .0))) (of-walk (v ∷ vs) u (rw (h .0) ls) (h .1))
 
     walk-cost-is : (l : List ℕ) → IsWalk (out G) start goal l → walkCost f32Costs (out G) l ≡ chainCost numbers lengths links (map N l)
     unfolding chainCost
@@ -311,11 +309,12 @@ module _ (numbers : List ℕ) (lengths : List Float) (links : List Link) (lanes 
     walk-cost-is (u ∷ (v ∷ vs)) h = cost-rows (v ∷ vs) u (ofBits binary32 0) (rw (h .0) ls) (h .1)
 
     -- ---- the answer, with the numbers of its lanes
-    abbrev pub OptimalAnswer : Answer → Type 0
-    OptimalAnswer a = Optimal numbers lengths links (N start) (N goal) (a .ok) (map N (take (a .count) (a .path))) (a .cost)
+    abbrev pub OptimalResult : Result Float → Type 0
+    OptimalResult refused = Optimal numbers lengths links (N start) (N goal) false [] (ofBits binary32 0)
+    OptimalResult (found l c) = Optimal numbers lengths links (N start) (N goal) true (map N l) c
 
-    by-result : (r : Result Float) → Correct f32Costs f32-laws (out G) 256 start goal r → OptimalAnswer (answerOf r)
-    unfolding answerOf f32-laws
+    by-result : (r : Result Float) → Correct f32Costs f32-laws (out G) 256 start goal r → OptimalResult r
+    unfolding f32-laws
     by-result refused none =
         record {
           is-chain = λ e. absurd (true≢false (sym e));
@@ -330,16 +329,13 @@ module _ (numbers : List ℕ) (lengths : List Float) (links : List Link) (lanes 
         no-chain other false h = refl
     by-result (found l c) best =
         record {
-          is-chain = λ e. rw seam (walk-chain l (best .walk));
-          cost-is = λ e. rw seam (sym (best .cost) ∙ walk-cost-is l (best .walk));
+          is-chain = λ e. walk-chain l (best .walk);
+          cost-is = λ e. sym (best .cost) ∙ walk-cost-is l (best .walk);
           least = λ e other h. no-less other h;
-          fits = λ e. rw seam (rw (length-map l N) (best .short));
+          fits = λ e. rw (length-map l N) (best .short);
           refused = λ e. absurd (true≢false e);
         }
       where
-        seam : take (length l) (l ++ replicate (257 - length l) 0) ≡ l
-        seam = take-append-seam l (replicate (257 - length l) 0)
-
         cost-of : (m : List ℕ) → IsWalk (out G) start goal m → Cost (walkCost f32Costs (out G) m)
         cost-of m w = walk-cost f32Costs f32-laws (out G) (G .count) start goal (rw (T .count) ls) linking m w
 
@@ -353,28 +349,28 @@ module _ (numbers : List ℕ) (lengths : List Float) (links : List Link) (lanes 
             (cost-of (map R other) (p .0))
             (best .least (map R other) (p .0)))
 
-    pub optimal : (a : Answer) → a ≡ answerOf (searchedIn lanes G start goal) → OptimalAnswer a
-    optimal a e =
+    pub optimal : OptimalResult (searchedIn lanes G start goal)
+    optimal =
         let right = search-correct f32Costs f32-laws (out G) 256 (G .count) start goal (rw (T .count) (A .few)) (rw (T .count) ls) linking in
-        subst OptimalAnswer (sym e) (by-result (searchedIn lanes G start goal) (right (numberOf lanes)))
+        by-result (searchedIn lanes G start goal) (right (laneNumber lanes))
 
     -- ---- the heap form of route.rs ends, and gives this chain at this cost
-    distinct-numbers : (a b : ℕ) → a < G .count → b < G .count → numberOf lanes a ≡ numberOf lanes b → a ≡ b
+    distinct-numbers : (a b : ℕ) → a < G .count → b < G .count → laneNumber lanes a ≡ laneNumber lanes b → a ≡ b
     distinct-numbers a b la lb e =
         let p : N a ≡ N b = sym (T .number a (lane a la)) ∙ e ∙ T .number b (lane b lb) in
         sym (row-number numbers (A .few) (A .distinct) a (lane a la)) ∙ ap R p ∙ row-number numbers (A .few) (A .distinct) b (lane b lb)
 
     abbrev heapBegun : Frontier Float
-    heapBegun = begun f32Costs (numberOf lanes) (out G) 256 start goal
+    heapBegun = begun f32Costs (laneNumber lanes) (out G) 256 start goal
 
-    pub heap-chain : {r : Result Float} → Runs f32Costs (numberOf lanes) (out G) 256 start goal heapBegun r
+    pub heap-chain : {r : Result Float} → Runs f32Costs (laneNumber lanes) (out G) 256 start goal heapBegun r
         → r ≡ searchedIn lanes G start goal
     heap-chain R =
-        heap-same f32Costs f32-laws (numberOf lanes) (out G) 256 (G .count) start goal (rw (T .count) (A .few)) (rw (T .count) ls) linking
+        heap-same f32Costs f32-laws (laneNumber lanes) (out G) 256 (G .count) start goal (rw (T .count) (A .few)) (rw (T .count) ls) linking
         distinct-numbers R
 
-    pub heap-loop-ends : Ends f32Costs (numberOf lanes) (out G) 256 start goal heapBegun
+    pub heap-loop-ends : Ends f32Costs (laneNumber lanes) (out G) 256 start goal heapBegun
     heap-loop-ends =
-        heap-finishes f32Costs f32-laws (numberOf lanes) (out G) 256 (G .count) start goal (rw (T .count) (A .few)) (rw (T .count) ls)
+        heap-finishes f32Costs f32-laws (laneNumber lanes) (out G) 256 (G .count) start goal (rw (T .count) (A .few)) (rw (T .count) ls)
         linking
         distinct-numbers

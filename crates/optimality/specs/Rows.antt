@@ -1,25 +1,27 @@
 -- Rows and numbers of lanes: in an accepted plan each lane has one number, and the links that the tables keep by row are the link records.
 use mathlib.Core.Bool.{Bool, cond, false, true, true≢false, _&&_, _||_}
 use mathlib.Core.List.{List, List·Memᴰ, List·Memᴰ·cases-cons, List·Memᴰ·head, List·Memᴰ·not-nil, List·Memᴰ·tail, [], _++_, _∷_}
-use mathlib.Core.Logic.{inl, inr, ⊎-elim, _⊎_, _≢_}
-use mathlib.Core.Path.{ap, refl, sym, _∙_, _≡_}
-use Prim.Native.Nat.{suc, zero, ℕ, _*_, _+_, _<_, _≤_}
-use native.Mathlib.Nat.{le-of-suc-le-suc, not-suc-le-zero}
+use mathlib.Core.Logic.{⊎-elim}
+use mathlib.Core.Path.{refl, sym, _∙_, _≡_}
+use Prim.Native.Nat.{suc, ℕ, _*_, _+_, _<_, _≤_}
 use native.Mathlib.Omega.{arith}
 use lib.Dec.{eqb, ltb}
 use lib.Ieee.{Float, lt, nan}
 use lib.ListN.{getD, length}
-use borrow.Author.Tests.{eq-eqb, eqb-false, eqb-true, ltb-false, ltb-true, ne-eqb}
+use borrow.Author.Tests.{eq-eqb, eqb-true, ltb-false, ltb-true}
 use Rattle.exact.specs.Sums.{LinkCost}
-use Rattle.search.specs.LaneGraph.{LaneGraph, edges, f32Costs, firstLink, firstNeighbour, lengthOf, neighbours, numberOf, out}
-use Rattle.search.specs.LaneGraph.{successors}
+use Rattle.plan_format.specs.Lookup.{index-get, index-own, index-same}
+use Rattle.plan_format.specs.Plan.{indexOf, repeats}
+use Rattle.plan_format.specs.Records.{Link}
+use Rattle.plan_format.specs.Tables.{linked}
+use Rattle.rows.specs.Rows.{firstLink, firstNeighbour, laneNumber, leadsTo, neighbours, successors}
+use Rattle.search.specs.LaneGraph.{LaneGraph, edges, f32Costs, lengthOf}
 use Rattle.search.specs.Search.{Edge}
 use Rattle.optimality.specs.Chains.{hasLink}
-use Rattle.optimality.specs.Records.{Link, holds, indexOf, linked, repeats}
 use Rattle.optimality.specs.Walks.{Linked, cheapest}
 
 -- ---- what is known of an accepted plan: no lane's number stands twice, each link leaves a lane, and each length is the cost of a link
-pub record Accepted (numbers : List ℕ) (lengths : List Float) (links : List Link) : Type 0 where
+pub record ChainsOk (numbers : List ℕ) (lengths : List Float) (links : List Link) : Type 0 where
   pub few : length numbers ≤ 256
   pub distinct : repeats numbers ≡ false
   pub from-there : (i : ℕ) (d : Link) → i < length links → indexOf (getD links i d .from) numbers 0 256 < length numbers
@@ -28,55 +30,18 @@ pub record Accepted (numbers : List ℕ) (lengths : List Float) (links : List Li
 -- the tables hold its lanes and links: for each lane and role, the rows of the lanes led to, in file order
 pub record Tabled (numbers : List ℕ) (lengths : List Float) (links : List Link) (lanes : List ℕ) (G : LaneGraph) : Type 0 where
   pub count : G .count ≡ length numbers
-  pub number : (u : ℕ) → u < length numbers → numberOf lanes u ≡ getD numbers u 0
+  pub number : (u : ℕ) → u < length numbers → laneNumber lanes u ≡ getD numbers u 0
   pub long : (u : ℕ) → u < length numbers → lengthOf G u ≡ getD lengths u nan
-  pub successors-count : (u : ℕ) → u < length numbers → successors G u ≡ length (linked links (getD numbers u 0) 0)
-  pub neighbours-count : (u : ℕ) → u < length numbers → neighbours G u ≡ length (linked links (getD numbers u 0) 2)
+  pub successors-count : (u : ℕ) → u < length numbers → successors (G .fans) u ≡ length (linked links (getD numbers u 0) 0)
+  pub neighbours-count : (u : ℕ) → u < length numbers → neighbours (G .fans) u ≡ length (linked links (getD numbers u 0) 2)
   pub successor-row : (u j : ℕ) → u < length numbers → j < length (linked links (getD numbers u 0) 0)
-      → getD (G .links) (2 * (firstLink G u + j) + 1) 0 ≡ indexOf (getD (linked links (getD numbers u 0) 0) j 0) numbers 0 256
+      → leadsTo (G .links) (firstLink (G .fans) u + j) ≡ indexOf (getD (linked links (getD numbers u 0) 0) j 0) numbers 0 256
   pub neighbour-row : (u j : ℕ) → u < length numbers → j < length (linked links (getD numbers u 0) 2)
-      → getD (G .links) (2 * (firstNeighbour G u + j) + 1) 0 ≡ indexOf (getD (linked links (getD numbers u 0) 2) j 0) numbers 0 256
-
--- ---- `indexOf`
-abbrev At : ℕ → List ℕ → ℕ → ℕ → Type 0
-At x ns i r = (k : ℕ) × (k < length ns) × (r ≡ i + k) × (getD ns k 0 ≡ x)
-
-index-is : (x : ℕ) (ns : List ℕ) (i d : ℕ) → (indexOf x ns i d ≡ d) ⊎ At x ns i (indexOf x ns i d)
-unfolding indexOf
-index-is x [] i d = inl refl
-index-is x (y ∷ ys) i d = go (eqb y x) refl (index-is x ys (i + 1) d)
-  where
-    r : ℕ
-    r = indexOf x ys (i + 1) d
-
-    go : (b : Bool) → eqb y x ≡ b → (r ≡ d) ⊎ At x ys (i + 1) r → (cond b i r ≡ d) ⊎ At x (y ∷ ys) i (cond b i r)
-    go true e p = inr (0, omega arith, omega arith, eqb-true y x e)
-    go false e (inl p) = inl p
-    go false e (inr (k, l, p, q)) = inr (suc k, omega arith, omega arith, q)
-
-or-false : (a b : Bool) → (a || b) ≡ false → (a ≡ false) × (b ≡ false)
-or-false true b e = absurd (true≢false e)
-or-false false b e = (refl, e)
+      → leadsTo (G .links) (firstNeighbour (G .fans) u + j) ≡ indexOf (getD (linked links (getD numbers u 0) 2) j 0) numbers 0 256
 
 pub or-right : (a b : Bool) → b ≡ true → (a || b) ≡ true
 or-right true b h = refl
 or-right false b h = h
-
-not-held : (x : ℕ) (ns : List ℕ) (u : ℕ) → holds x ns ≡ false → u < length ns → getD ns u 0 ≢ x
-unfolding holds
-not-held x [] u h l = absurd (not-suc-le-zero l)
-not-held x (y ∷ ys) zero h l = eqb-false y x (or-false (eqb y x) (holds x ys) h .0)
-not-held x (y ∷ ys) (suc u) h l = not-held x ys u (or-false (eqb y x) (holds x ys) h .1) (le-of-suc-le-suc l)
-
-index-at : (ns : List ℕ) (u i d : ℕ) → repeats ns ≡ false → u < length ns → indexOf (getD ns u 0) ns i d ≡ i + u
-unfolding indexOf repeats
-index-at [] u i d h l = absurd (not-suc-le-zero l)
-index-at (y ∷ ys) zero i d h l = let e : i ≡ i + 0 = omega arith in rw (eq-eqb y y refl) e
-index-at (y ∷ ys) (suc u) i d h l =
-    let p = or-false (holds y ys) (repeats ys) h in
-    let f : eqb y (getD ys u 0) ≡ false = ne-eqb y (getD ys u 0) (λ q. not-held y ys u (p .0) (le-of-suc-le-suc l) (sym q)) in
-    let e : i + 1 + u ≡ i + suc u = omega arith in
-    rw f (index-at ys u (i + 1) d (p .1) (le-of-suc-le-suc l) ∙ e)
 
 module _ (numbers : List ℕ) (few : length numbers ≤ 256) where
   -- the row of a number, and the number of a row
@@ -87,28 +52,14 @@ module _ (numbers : List ℕ) (few : length numbers ≤ 256) where
   numberAt u = getD numbers u 0
 
   pub row-below : (x : ℕ) → row x < length numbers → numberAt (row x) ≡ x
-  row-below x l = go (index-is x numbers 0 256)
-    where
-      go : (row x ≡ 256) ⊎ At x numbers 0 (row x) → numberAt (row x) ≡ x
-      go (inl p) = absurd (no (row x) (length numbers) p l few)
-        where
-          no : (a n : ℕ) → a ≡ 256 → a < n → n ≤ 256 → ⊥
-          no a n p q r = omega arith
-      go (inr (k, h, p, q)) = let e : row x ≡ k = omega arith in ap numberAt e ∙ q
+  row-below x l = index-get x numbers 0 (row x) 256 (omega arith) (λ e. absurd (omega (arith, few)))
 
   module _ (distinct : repeats numbers ≡ false) where
     pub row-number : (u : ℕ) → u < length numbers → row (numberAt u) ≡ u
-    row-number u l = let e : 0 + u ≡ u = omega arith in index-at numbers u 0 256 distinct l ∙ e
+    row-number u l = let e : 0 + u ≡ u = omega arith in index-own numbers 0 u 256 distinct l ∙ e
 
     row-test : (x u : ℕ) → u < length numbers → eqb (row x) u ≡ eqb x (numberAt u)
-    row-test x u l = go (eqb (row x) u) refl
-      where
-        go : (b : Bool) → eqb (row x) u ≡ b → b ≡ eqb x (numberAt u)
-        go true e =
-            let p = eqb-true (row x) u e in
-            let below : row x < length numbers = omega arith in
-            sym (eq-eqb x (numberAt u) (sym (row-below x below) ∙ ap numberAt p))
-        go false e = sym (ne-eqb x (numberAt u) (λ p. eqb-false (row x) u e (ap row p ∙ row-number u l)))
+    row-test x u l = sym (index-same numbers x u distinct l few)
 
     -- ---- link records by row
     unfoldable pub rowLink : List Link → ℕ → ℕ → ℕ → Bool
@@ -127,17 +78,17 @@ module _ (numbers : List ℕ) (few : length numbers ≤ 256) where
     stepsTo w (t ∷ ts) = cond (ltb (row t) (length numbers)) (record { to = row t; cost = w } ∷ stepsTo w ts) (stepsTo w ts)
 
     pub edges-are : (rows : List ℕ) (n : ℕ) (w : Float) (ts : List ℕ) (first : ℕ) → n ≡ length numbers
-        → ((j : ℕ) → j < length ts → getD rows (2 * (first + j) + 1) 0 ≡ row (getD ts j 0))
+        → ((j : ℕ) → j < length ts → leadsTo rows (first + j) ≡ row (getD ts j 0))
         → edges rows n w first (length ts) ≡ stepsTo w ts
     unfolding edges stepsTo
     edges-are rows n w [] first e h = refl
     edges-are rows n w (t ∷ ts) first e h =
         let z : first + 0 ≡ first = omega arith in
-        let here : getD rows (2 * first + 1) 0 ≡ row t = rw z at (h 0 (omega arith)) in
+        let here : leadsTo rows first ≡ row t = rw z at (h 0 (omega arith)) in
         let more : edges rows n w (first + 1) (length ts) ≡ stepsTo w ts = edges-are rows n w ts (first + 1) e (λ j l. later j l) in
         rw (here, more, e)
       where
-        later : (j : ℕ) → j < length ts → getD rows (2 * (first + 1 + j) + 1) 0 ≡ row (getD ts j 0)
+        later : (j : ℕ) → j < length ts → leadsTo rows (first + 1 + j) ≡ row (getD ts j 0)
         later j l = let z : first + 1 + j ≡ first + suc j = omega arith in rw z (h (suc j) (omega arith))
 
     -- ---- one role's links out of the lane u

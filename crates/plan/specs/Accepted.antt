@@ -1,24 +1,25 @@
 -- What an accepted plan guarantees, for the crates above: counts, ranges, numbers that stand once, rows that exist.
-use mathlib.Core.Bool.{Bool, false, true, _&&_}
+use mathlib.Core.Bool.{Bool, cond, false, true, _&&_}
 use mathlib.Core.List.{List, [], map, _∷_}
 use mathlib.Core.Path.{ap, refl, subst, sym, _∙_, _≡_}
-use Prim.Native.Nat.{suc, zero, ℕ, _*_, _+_, _<_, _≤_}
+use Prim.Native.Nat.{suc, zero, ℕ, _*_, _+_, _-_, _<_, _≤_}
 use native.Mathlib.Nat.{le-of-suc-le-suc, not-suc-le-zero}
 use native.Mathlib.Omega.{arith}
-use lib.Dec.{eqb, leb, ltb}
-use lib.Ieee.{Float, le, lt}
+use lib.Dec.{T, eqb, leb, ltb}
+use lib.Ieee.{Float, binary32, fits, le, lt}
+use lib.Ieee.Bits.{ofBits-fits}
 use lib.ListN.{getD, length, length-map, replicate, set}
 use borrow.Author.Tests.{eqb-false, eqb-true, leb-true, ltb-false, ltb-true, not-false}
 use Rattle.fields.specs.Fields.{f32At, f64At, u16At, u32At, u8At}
 use Rattle.plan_format.specs.Decodes.{decodes}
-use Rattle.plan_format.specs.Laws.{Bytes, and-fst, and-snd, any-none, every-each, getD-map-in, or-fst, or-snd, word-below}
+use Rattle.plan_format.specs.Laws.{Bytes, and-fst, and-snd, any-none, every-each, getD-map-in, long-below, or-fst, or-snd, word-below}
 use Rattle.plan_format.specs.Lookup.{index-in}
 use Rattle.plan_format.specs.Plan.{Plan, Starts, Walked, accepted, any, coordinate, countsOf, decode, ended, every, fromMissing}
 use Rattle.plan_format.specs.Plan.{inRange, itemsAt, lacks, laneCount, laneOf, laneRange, misplaced, none, numberOf, placeKey}
 use Rattle.plan_format.specs.Plan.{placeLane, placeSection, planOf, recordNumber, refused, repeats, rises, risesFrom, sectionCount}
 use Rattle.plan_format.specs.Plan.{sectionKey, sectionOf, sectionRange, station, twice, walked}
 use Rattle.plan_format.specs.Reading.{planCounts, readOf}
-use Rattle.plan_format.specs.Records.{Lane, Link, Place, Section, laneAt, linkAt, sectionAt}
+use Rattle.plan_format.specs.Records.{Lane, Link, Place, Section, floats, laneAt, linkAt, placeAt, raisedAt, run, sectionAt}
 use Rattle.plan_format.specs.Tables.{endRow}
 use Rattle.plan_format.specs.declared.Counts.{Counts}
 use Rattle.plan_format.specs.declared.Read.{Read}
@@ -27,7 +28,7 @@ use Rattle.plan_scan.specs.Limits.{Limited, more, slotOf}
 use Rattle.plan_scan.specs.Scan.{Scanned, Scanning, Sound, next-as, scan-end, scan-start, scan-stop}
 use Rattle.plan.specs.Checking.{plan-counts}
 
--- a lane: its fields lie in their ranges, its points are coordinates
+-- a lane: its fields lie in their ranges, its points are coordinates, each an f32
 pub record LaneOk (l : Lane) : Type 0 where
   pub number : l .number < 65536
   pub type : l .type ≤ 27
@@ -37,6 +38,7 @@ pub record LaneOk (l : Lane) : Type 0 where
   pub size : length (l .points) ≡ 3 * l .count
   pub end-size : length (endRow l) ≡ 6
   pub coordinates : (j : ℕ) (d : Float) → j < 3 * l .count → coordinate (getD (l .points) j d) ≡ true
+  pub held : (j : ℕ) (d : Float) → j < 3 * l .count → T (fits binary32 (getD (l .points) j d))
 
 -- a link: its from-lane is there; the lane led to need not be
 pub record LinkOk (p : Plan) (x : Link) : Type 0 where
@@ -56,8 +58,12 @@ pub record SectionOk (x : Section) : Type 0 where
   pub stations : (j : ℕ) (d : Float) → j < x .count → station (getD (x .stations) j d) ≡ true
   pub rising : (j : ℕ) (d : Float) → suc j < x .count → lt (getD (x .stations) j d) (getD (x .stations) (suc j) d) ≡ true
 
--- a place: lane and section are there, with as many points as stations
+-- a place: its fields lie within their widths; lane and section are there, with as many points as stations
 pub record PlaceOk (p : Plan) (x : Place) : Type 0 where
+  pub number : x .lane < 65536
+  pub road : x .road < 65536
+  pub index : x .index < 65536
+  pub raised : x .raised < 4294967296
   pub lane : laneOf p (x .lane) < length (p .lanes)
   pub section : sectionOf p (placeSection x) < length (p .sections)
   pub alike : (d : Lane) (e : Section)
@@ -126,6 +132,17 @@ rises-each (x ∷ xs) e j d h = from x xs e j (le-of-suc-le-suc h)
     from x (y ∷ ys) e zero h = and-fst (lt x y) (risesFrom y ys) (opened-from x y ys e)
     from x (y ∷ ys) e (suc j) h = from y ys (and-snd (lt x y) (risesFrom y ys) (opened-from x y ys e)) j (le-of-suc-le-suc h)
 
+-- what is read from four bytes is an f32
+floats-held : (s : List ℕ) (at n j : ℕ) (d : Float) → j < n → T (fits binary32 (getD (floats s at n) j d))
+unfolding run
+floats-held s at zero j d h = absurd (not-suc-le-zero h)
+floats-held s at (suc n) zero d h = ofBits-fits binary32 (u32At s at)
+floats-held s at (suc n) (suc j) d h = floats-held s (at + 4) n j d (le-of-suc-le-suc h)
+
+-- the fields of a place
+abbrev Narrow : Place → Type 0
+Narrow x = (x .lane < 65536) × (x .road < 65536) × (x .index < 65536) × (x .raised < 4294967296)
+
 module _ (s : List ℕ) (B : Bytes s) (at : ℕ) where
   lane-ok : inRange s at 1 ≡ true → LaneOk (laneAt s at)
   unfolding inRange laneRange
@@ -144,6 +161,7 @@ module _ (s : List ℕ) (B : Bytes s) (at : ℕ) where
         size = size;
         end-size = end-length s at;
         coordinates = λ j d h. every-each coordinate (l .points) d (and-snd (leb 2 (l .count)) _ e₃) j (omega arith);
+        held = λ j d h. floats-held s (at + 13) (3 * u16At s (at + 11)) j d h;
       }
 
   role-ok : inRange s at 2 ≡ true → linkAt s at .role ≤ 2
@@ -171,6 +189,18 @@ module _ (s : List ℕ) (B : Bytes s) (at : ℕ) where
         rising = λ j d h. rises-each (x .stations) (and-snd (every station (x .stations)) _ e₄) j d (omega arith);
       }
 
+  raised-below : raisedAt s (at + 12) < 4294967296
+  unfolding raisedAt
+  raised-below = by (ltb (u32At s (at + 12)) 2147483648) refl
+    where
+      by : (b : Bool) → ltb (u32At s (at + 12)) 2147483648 ≡ b
+          → cond b (u32At s (at + 12) + 2147483648) (u32At s (at + 12) - 2147483648) < 4294967296
+      by true e = let z = ltb-true (u32At s (at + 12)) 2147483648 e in omega arith
+      by false e = let z = long-below s (at + 12) B in omega arith
+
+  place-narrow : Narrow (placeAt s at)
+  place-narrow = (word-below s (at + 6) B, word-below s (at + 8) B, word-below s (at + 10) B, raised-below)
+
 -- THE PLAN
 module _ (p : Plan) (few : length (p .lanes) ≤ 256) (some : length (p .sections) ≤ 64) (full : lacks p ≡ false) where
   from-all : any (fromMissing (map numberOf (p .lanes))) (p .links) ≡ false
@@ -191,8 +221,8 @@ module _ (p : Plan) (few : length (p .lanes) ≤ 256) (some : length (p .section
         to = λ n. index-in (x .to) numberOf (p .lanes) (laneOf p (x .to)) 256 refl n;
       }
 
-  place-ok : (i : ℕ) (d : Place) → i < length (p .places) → PlaceOk p (getD (p .places) i d)
-  place-ok i d h =
+  place-ok : (i : ℕ) (d : Place) → i < length (p .places) → Narrow (getD (p .places) i d) → PlaceOk p (getD (p .places) i d)
+  place-ok i d h w =
       let x = getD (p .places) i d in
       let e = any-none (misplaced p) (p .places) d placed-all i h in
       let l = laneOf p (x .lane) in
@@ -203,6 +233,10 @@ module _ (p : Plan) (few : length (p .lanes) ≤ 256) (some : length (p .section
       let section = index-in (placeSection x) sectionKey (p .sections) j 64 refl (eqb-false j 64 (or-fst (eqb j 64) _ e₁)) in
       let same = eqb-true (getD (map laneCount (p .lanes)) l 0) (getD (map sectionCount (p .sections)) j 0) (not-false _ e₂) in
       record {
+        number = w .0;
+        road = w .1;
+        index = w .2;
+        raised = w .3;
         lane = lane;
         section = section;
         alike = λ d e. sym (getD-map-in laneCount (p .lanes) l d 0 lane) ∙ same ∙ getD-map-in sectionCount (p .sections) j e 0 section;
@@ -232,7 +266,9 @@ accepted-by s B a is once full =
       section = λ i d h.
           let k : i < length (a .sections) = omega (arith, length-map (a .sections) (sectionAt s)) in
           rw (getD-map-in (sectionAt s) (a .sections) i 0 d k) (section-ok s B (getD (a .sections) i 0) (S .sections i k .range));
-      place = place-ok p few some full;
+      place = λ i d h.
+          let k : i < length (a .places) = omega (arith, length-map (a .places) (placeAt s)) in
+          place-ok p few some full i d h (rw (getD-map-in (placeAt s) (a .places) i 0 d k) (place-narrow s B (getD (a .places) i 0)));
       numbers-once = or-fst (repeats (map numberOf (p .lanes))) _ once;
       sections-once = or-fst (repeats (map sectionKey (p .sections))) _ o₁;
       places-once = or-fst (repeats (map placeLane (p .places))) _ o₂;

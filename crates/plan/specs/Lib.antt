@@ -3,3 +3,5 @@ pub mod Checking
 pub mod Loading
 pub mod Accepted
 pub mod Rows
+pub mod Links
+pub mod Kept

@@ -4,14 +4,14 @@ use mathlib.Core.Path.{ap, refl, sym, _∙_, _≡_}
 use Prim.Native.Nat.{suc, zero, ℕ, _*_, _+_, _<_, _≤_}
 use native.Mathlib.Nat.{le-of-suc-le-suc, not-suc-le-zero}
 use native.Mathlib.Omega.{arith}
-use lib.Ieee.{Float, ones}
+use lib.Ieee.{Float}
 use lib.ListN.{List·getD-append, drop, getD, length, length-append, length-drop, length-map, take}
 use lib.Seq.{drop-append-add, getD-append-add, getD-drop, length-take-le, take-at}
-use Rattle.plan_format.specs.Plan.{Plan, laneCount, none, numberOf, placeLane, sectionCount}
+use Rattle.plan_format.specs.Plan.{Plan, laneCount, numberOf, placeLane, sectionCount}
 use Rattle.plan_format.specs.Reading.{sum}
 use Rattle.plan_format.specs.Records.{Lane, Link, Place, Section}
 use Rattle.plan_format.specs.Rows.{rows-drop, rows-length}
-use Rattle.plan_format.specs.Tables.{Tables, boundRow, endRow, fanRow, group, laneRow, linkCount, linkRow, linked, planRows}
+use Rattle.plan_format.specs.Tables.{boundRow, endRow, fanRow, group, laneRow, linkCount, linkRow, linked, planRows}
 use Rattle.plan_format.specs.Tables.{placeRow, pointRow, rows, rowsFrom, sectionRow, stationRow}
 use Rattle.plan.specs.Accepted.{Accepted}
 
@@ -67,7 +67,7 @@ module _ {X A : Type 0} (row : X → List A) where
       rw (← before) (rows-get xs e i k d h (omega arith))
 
 -- all the rows
-runs-length : {X A : Type 0} (row : X → List A) (w : ℕ) (count : X → ℕ) (xs : List X)
+pub runs-length : {X A : Type 0} (row : X → List A) (w : ℕ) (count : X → ℕ) (xs : List X)
     → ((j : ℕ) (e : X) → j < length xs → length (row (getD xs j e)) ≡ w * count (getD xs j e))
     → length (rows row xs) ≡ w * sum (map count xs)
 unfolding rows sum

@@ -44,7 +44,7 @@ pair-test a b c d ha hb hc hd = go (eqb a c) (eqb b d) (eqb (a * 65536 + b) (c *
         let z = eqb-true (a * 65536 + b) (c * 65536 + d) r in
         absurd (eqb-false a c p (omega arith))
 
-module _ (p : Plan) (A : Accepted p) (e : Lane) (x : Section) where
+module _ (p : Plan) (A : Accepted p) (e : Lane) where
   -- the lane with the number n has the row that the plan gives it
   pub find-lane : (n : ℕ) → firstRow (isLane (planRows p .lanes) n) (length (p .lanes)) 0 256 ≡ laneOf p n
   find-lane n =
@@ -58,6 +58,7 @@ module _ (p : Plan) (A : Accepted p) (e : Lane) (x : Section) where
           let z : 6 * (0 + j) ≡ 6 * j + 0 = omega arith in
           rw (z, lane-entry p A j 0 e l (omega arith), getD-map-in numberOf (p .lanes) j e 0 l)
 
+module _ (p : Plan) (A : Accepted p) (x : Section) where
   -- a road and an index below 65,536, as the records have them, are one key
   pub find-section : (road index : ℕ) → road < 65536 → index < 65536
       → firstRow (isSection (planRows p .sections) road index) (length (p .sections)) 0 64 ≡ sectionOf p (road * 65536 + index)

@@ -1,14 +1,15 @@
--- What an accepted file is: its walk ended, its plan is that of the starts, and neither 7 nor 8 applies.
-use mathlib.Core.Bool.{Bool, cond, false, true, _||_}
+-- What an accepted file is: its walk ended, its plan is that of the starts, and neither 7 nor 8 applies. The walk ends at the file's end.
+use mathlib.Core.Bool.{Bool, cond, false, true}
 use mathlib.Core.List.{List}
-use mathlib.Core.Path.{refl, _≡_}
-use Prim.Native.Nat.{ℕ}
+use mathlib.Core.Path.{ap, refl, _≡_}
+use Prim.Native.Nat.{suc, zero, ℕ, _+_, _≤_}
 use native.Mathlib.Omega.{arith}
-use lib.Dec.{ltb}
+use lib.Dec.{eqb, ltb}
 use lib.ListN.{length}
-use Rattle.plan_format.specs.Plan.{Plan, Starts, Walked, accepted, decode, ended, judged, lacks, planOf, refused, settled}
-use Rattle.plan_format.specs.Plan.{stopped, twice, walked}
-use Rattle.plan_format.specs.Reading.{opened}
+use borrow.Author.Tests.{le-ltb}
+use Rattle.fields.specs.Fields.{u16At, u32At}
+use Rattle.plan_format.specs.Plan.{Plan, Starts, Walked, accepted, countsOf, decode, ended, itemsAt, judged, lacks, none, planOf}
+use Rattle.plan_format.specs.Plan.{recordNumber, refused, settled, stopped, twice, walk, walked, withRecord}
 
 pub record Decodes (s : List ℕ) (p : Plan) : Type 0 where
   pub starts : Starts
@@ -36,8 +37,33 @@ decodes side s p e = size (ltb 65536 (length s)) (walked s) refl e
     size false (stopped n) is e = absurd (never n p e)
     size false (ended a) is e = free a is (ltb 1 side) (twice (planOf s a)) (lacks (planOf s a)) refl refl e
 
--- a caller that lends further tables: number 1 if one of all is too short
-pub opened-also : (a b : Bool) (side : ℕ) (s : List ℕ) → cond a (refused 1) (opened b side s) ≡ opened (a || b) side s
-unfolding opened
-opened-also true b side s = refl
-opened-also false b side s = refl
+-- THE WALK ends at the file's end: its count of records, the file's bytes, never runs out before it, so any greater count gives the same
+walk-none : (k : ℕ) (s : List ℕ) (at : ℕ) (a : Starts) → walk k false s at a ≡ ended a
+unfolding walk
+walk-none zero s at a = refl
+walk-none (suc k) s at a = refl
+
+pub walk-any : (k n : ℕ) (s : List ℕ) (at : ℕ) (a : Starts) → length s ≤ at + k → length s ≤ at + n
+    → walk k (ltb at (length s)) s at a ≡ walk n (ltb at (length s)) s at a
+unfolding walk
+walk-any zero n s at a h g = let e = le-ltb at (length s) (omega arith) in rw (e, walk-none n s at a, walk-none 0 s at a)
+walk-any (suc k) zero s at a h g = let e = le-ltb at (length s) (omega arith) in rw (e, walk-none (suc k) s at a, walk-none 0 s at a)
+walk-any (suc k) (suc n) s at a h g =
+    by (ltb at (length s))
+    (walk-any k n s (at + 6 + u32At s at) (withRecord at (u16At s (at + 4)) (itemsAt s at (u16At s (at + 4))) a) (omega arith) (omega arith))
+  where
+    next : ℕ
+    next = at + 6 + u32At s at
+
+    after : Starts
+    after = withRecord at (u16At s (at + 4)) (itemsAt s at (u16At s (at + 4))) a
+
+    by : (b : Bool) → walk k (ltb next (length s)) s next after ≡ walk n (ltb next (length s)) s next after
+        → walk (suc k) b s at a ≡ walk (suc n) b s at a
+    by false same = refl
+    by true same =
+        ap (λ (w : Walked). cond (eqb (recordNumber s at (countsOf a)) 0) w (stopped (recordNumber s at (countsOf a)))) same
+
+pub walked-any : (n : ℕ) (s : List ℕ) → length s ≤ n → walk n (ltb 0 (length s)) s 0 none ≡ walked s
+unfolding walked
+walked-any n s h = walk-any n (length s) s 0 none (omega arith) (omega arith)

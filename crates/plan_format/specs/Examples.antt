@@ -1,57 +1,25 @@
 -- Worked cases: what small files give, by computation.
 use mathlib.Core.List.{List, [], map, _++_, _∷_}
 use mathlib.Core.Path.{refl, _≡_}
-use Prim.Native.Nat.{suc, zero, ℕ, _%_, _/_, _<_}
-use lib.Ieee.{Float, binary32, le, lt, ofBits}
+use Prim.Native.Nat.{ℕ, _<_, _≤_}
+use lib.Ieee.{le, lt, ofBits}
 use lib.ListN.{length}
-use borrow.Author.Tests.{lt-ltb}
+use borrow.Author.Tests.{le-ltb, lt-ltb}
 use Rattle.fields.specs.Fields.{u32At, u64At}
-use Rattle.plan_format.specs.Plan.{Decoded, accepted, any, decode, every, fits, inRange, indexOf, judged, lacks, laneCount}
-use Rattle.plan_format.specs.Plan.{laneFits, laneRange, numberOf, placeLane, recordNumber, refused, repeats, rises, risesFrom}
+use Rattle.plan_format.specs.Plan.{accepted, any, decode, every, fits, inRange, indexOf, judged, lacks}
+use Rattle.plan_format.specs.Plan.{laneFits, laneRange, recordNumber, refused, repeats, rises, risesFrom}
 use Rattle.plan_format.specs.Plan.{sectionFits, sectionRange, settled, twice, walk, walked, withRecord, within}
 use Rattle.plan_format.specs.Records.{Lane, queryAt, raisedAt, run}
-use Rattle.plan_format.specs.Tables.{fanRow, group, laneRow, linkCount, linked, rows, rowsFrom}
+use Rattle.plan_format.specs.Samples.{bytes, f32, lane, link, made, numberIs, place, point, rowsIn, section, sectionBy, straight, wide}
+use Rattle.plan_format.specs.Tables.{linked, planRows, rows, rowsFrom}
 use Rattle.plan_format.specs.declared.Counts.{Counts}
 use Rattle.plan_format.specs.declared.Query.the-variants.{Route}
-
--- n as so many bytes
-bytes : ℕ → ℕ → List ℕ
-bytes zero n = []
-bytes (suc k) n = n % 256 ∷ bytes k (n / 256)
-
--- a record with its header
-made : ℕ → List ℕ → List ℕ
-made kind payload = bytes 4 (length payload) ++ (bytes 2 kind ++ payload)
-
--- an f32 by its bits
-point : ℕ → ℕ → ℕ → List ℕ
-point x y z = bytes 4 x ++ (bytes 4 y ++ bytes 4 z)
-
--- a Driving lane without ends that goes straight along x
-straight : ℕ → ℕ → ℕ → List ℕ
-straight n from to = made 1 (bytes 2 n ++ (1 ∷ 0 ∷ 0 ∷ bytes 2 2 ++ (point from 0 0 ++ point to 0 0)))
-
-link : ℕ → ℕ → ℕ → List ℕ
-link from role to = made 2 (bytes 2 from ++ (role ∷ bytes 2 to))
-
--- stations 0 and 8
-section : ℕ → ℕ → List ℕ
-section road index =
-    made 3
-    (bytes 2 road ++
-    (bytes 2 index ++ (bytes 8 0 ++ (bytes 8 0x4020000000000000 ++ (bytes 2 2 ++ (bytes 8 0 ++ bytes 8 0x4020000000000000))))))
-
-place : ℕ → ℕ → ℕ → ℕ → List ℕ
-place lane road index number = made 4 (bytes 2 lane ++ (bytes 2 road ++ (bytes 2 index ++ bytes 4 number)))
 
 -- the file printed in document 01: lanes 1 and 2, a link, a route from (2,0,0) to (12,0,0)
 printed : List ℕ
 printed =
     straight 1 0 0x41000000 ++
     (straight 2 0x41000000 0x41800000 ++ (link 1 0 2 ++ made 16 (point 0x40000000 0 0 ++ point 0x41400000 0 0)))
-
-f32 : ℕ → Float
-f32 n = ofBits binary32 n
 
 driving : ℕ → ℕ → ℕ → Lane
 driving n from to =
@@ -77,35 +45,18 @@ printed-plan :
 unfolding
     ofBits le lt u32At u64At run raisedAt queryAt laneFits sectionFits fits every any risesFrom rises laneRange sectionRange
     inRange within recordNumber withRecord walk walked indexOf repeats twice lacks judged settled decode bytes made point
-    straight link section place f32 driving printed
+    lane straight link wide sectionBy section place f32 driving printed
 printed-plan = refl
 
-numberIs : Decoded → ℕ
-numberIs (refused n) = n
-numberIs (accepted p) = 0
-
 -- its tables of lanes, links and fans
-lanesIn : Decoded → List ℕ
-lanesIn (refused n) = []
-lanesIn (accepted p) = rowsFrom laneRow laneCount 0 (p .lanes)
-
-linksIn : Decoded → List ℕ
-linksIn (refused n) = []
-linksIn (accepted p) = rows (group (map numberOf (p .lanes)) (p .links)) (map numberOf (p .lanes))
-
-fansIn : Decoded → List ℕ
-fansIn (refused n) = []
-fansIn (accepted p) =
-    rowsFrom (fanRow (p .links) (map placeLane (p .places))) (linkCount (p .links)) 0 (map numberOf (p .lanes))
-
 printed-tables :
-    (lanesIn (decode 0 printed) ≡ 1 ∷ 1 ∷ 0 ∷ 0 ∷ 0 ∷ 2 ∷ 2 ∷ 1 ∷ 0 ∷ 0 ∷ 2 ∷ 2 ∷ [])
-    × (linksIn (decode 0 printed) ≡ 2 ∷ 1 ∷ [])
-    × (fansIn (decode 0 printed) ≡ 0 ∷ 1 ∷ 0 ∷ 0 ∷ 256 ∷ 1 ∷ 0 ∷ 0 ∷ 0 ∷ 256 ∷ [])
+    (rowsIn (decode 0 printed) .lanes ≡ 1 ∷ 1 ∷ 0 ∷ 0 ∷ 0 ∷ 2 ∷ 2 ∷ 1 ∷ 0 ∷ 0 ∷ 2 ∷ 2 ∷ [])
+    × (rowsIn (decode 0 printed) .links ≡ 2 ∷ 1 ∷ [])
+    × (rowsIn (decode 0 printed) .fans ≡ 0 ∷ 1 ∷ 0 ∷ 0 ∷ 256 ∷ 1 ∷ 0 ∷ 0 ∷ 0 ∷ 256 ∷ [])
 unfolding
     ofBits le lt u32At u64At run raisedAt queryAt laneFits sectionFits fits every any risesFrom rises laneRange sectionRange
     inRange within recordNumber withRecord walk walked indexOf repeats twice lacks judged settled decode bytes made point
-    straight link section place f32 driving printed rows rowsFrom linked lanesIn linksIn fansIn
+    lane straight link wide sectionBy section place f32 driving printed rows rowsFrom linked planRows rowsIn
 printed-tables = (refl, refl, refl)
 
 -- 0: an empty file is a plan without lanes
@@ -138,11 +89,11 @@ above = straight 1 0 0x45800001
 
 -- 5: one point
 one-point : List ℕ
-one-point = made 1 (bytes 2 1 ++ (1 ∷ 0 ∷ 0 ∷ bytes 2 1 ++ point 0 0 0))
+one-point = lane 1 0 0 1 (point 0 0 0)
 
 -- 5: ends 2, its length taken as with tangents
 two-ends : List ℕ
-two-ends = made 1 (bytes 2 1 ++ (1 ∷ 0 ∷ 2 ∷ bytes 2 2 ++ (bytes 24 0 ++ bytes 24 0)))
+two-ends = lane 1 0 2 2 (bytes 48 0)
 
 -- 7: a lane that stands twice
 same-lane : List ℕ
@@ -177,7 +128,7 @@ cases :
 unfolding
     ofBits le lt u32At u64At run raisedAt queryAt laneFits sectionFits fits every any risesFrom rises laneRange sectionRange
     inRange within recordNumber withRecord walk walked indexOf repeats twice lacks judged settled decode bytes made point
-    straight link section place f32 driving printed empty five-bytes past-the-end unknown-kind wrong-length edge above one-point
+    lane straight link wide sectionBy section place f32 driving printed empty five-bytes past-the-end unknown-kind wrong-length edge above one-point
     two-ends same-lane twice-before-missing from-missing to-missing placed no-section numberIs
 cases = refl
 
@@ -186,7 +137,7 @@ side-two : numberIs (decode 2 same-lane) ≡ 5
 unfolding
     ofBits le lt u32At u64At run raisedAt queryAt laneFits sectionFits fits every any risesFrom rises laneRange sectionRange
     inRange within recordNumber withRecord walk walked indexOf repeats twice lacks judged settled decode bytes made point
-    straight link section place f32 driving printed empty five-bytes past-the-end unknown-kind wrong-length edge above one-point
+    lane straight link wide sectionBy section place f32 driving printed empty five-bytes past-the-end unknown-kind wrong-length edge above one-point
     two-ends same-lane twice-before-missing from-missing to-missing placed no-section numberIs
 side-two = refl
 
@@ -199,10 +150,15 @@ limits :
 unfolding
     ofBits le lt u32At u64At run raisedAt queryAt laneFits sectionFits fits every any risesFrom rises laneRange sectionRange
     inRange within recordNumber withRecord walk walked indexOf repeats twice lacks judged settled decode bytes made point
-    straight link section place f32 driving printed after
+    lane straight link wide sectionBy section place f32 driving printed after
 limits = refl
 
 -- more than 65,536 bytes
 too-large : (side : ℕ) (s : List ℕ) → 65536 < length s → decode side s ≡ refused 2
 unfolding decode
 too-large side s h = simp (lt-ltb 65536 (length s) h)
+
+-- 65,536 pass
+not-too-large : (side : ℕ) (s : List ℕ) → length s ≤ 65536 → decode side s ≡ settled side s (walked s)
+unfolding decode
+not-too-large side s h = simp (le-ltb 65536 (length s) h)

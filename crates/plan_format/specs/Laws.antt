@@ -10,7 +10,7 @@ use lib.Dec.{ltb}
 use lib.ListN.{List·getD-append, List·getD-map, drop, drop-of-length-le, getD, length, length-append, length-map}
 use lib.Seq.{drop-cons, getD-append-add}
 use borrow.Author.Tests.{ltb-false, ltb-true}
-use Rattle.fields.specs.Fields.{u16At}
+use Rattle.fields.specs.Fields.{u16At, u32At}
 use Rattle.plan_format.specs.Plan.{any, every}
 
 -- a part that holds of each element
@@ -23,6 +23,10 @@ Bytes s = (i : ℕ) → getD s i 0 < 256
 
 pub word-below : (s : List ℕ) (at : ℕ) → Bytes s → u16At s at < 65536
 word-below s at B = omega (arith, B at, B (at + 1))
+
+pub long-below : (s : List ℕ) (at : ℕ) → Bytes s → u32At s at < 4294967296
+unfolding u32At
+long-below s at B = omega (arith, word-below s at B, word-below s (at + 2) B)
 
 pub and-left : (a b : Bool) → a ≡ false → (a && b) ≡ false
 and-left a b e = ap (λ (x : Bool). x && b) e

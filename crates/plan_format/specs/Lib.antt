@@ -4,9 +4,12 @@ pub mod Plan
 pub mod Tables
 pub mod Reading
 pub mod Queries
+pub mod Keys
 pub mod Decodes
 pub mod Laws
 pub mod Filling
 pub mod Lookup
 pub mod Rows
+pub mod Samples
 pub mod Examples
+pub mod Cases

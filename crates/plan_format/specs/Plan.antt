@@ -181,7 +181,8 @@ pub data Walked : Type 0 where
   stopped : ℕ → Walked
   ended : Starts → Walked
 
--- from `at` on, after the records of `a`; the first number is how many records may follow, the Bool whether `at` is before the end
+-- from `at` on, after the records of `a`; the first number is how many records may follow, the Bool whether `at` is before the end.
+-- A record has at least six bytes: the file's length is count enough (Decodes.antt, `walked-any`).
 unfoldable pub walk : ℕ → Bool → List ℕ → ℕ → Starts → Walked
 walk zero more s at a = ended a
 walk (suc k) false s at a = ended a
@@ -212,7 +213,7 @@ planOf s a =
       queries = map (queryAt s) (a .queries);
     }
 
--- NUMBER 7. A road with index, and an OpenDRIVE lane number within a section, are one number each.
+-- NUMBER 7. A road with index, and an OpenDRIVE lane number within a section, are one number each (Keys.antt: it tells them apart).
 abbrev pub numberOf : Lane → ℕ
 numberOf l = l .number
 

@@ -4,13 +4,10 @@ use mathlib.Core.List.{List, [], map, _++_, _∷_}
 use Prim.Native.Nat.{ℕ, _+_}
 use lib.Dec.{eqb}
 use lib.Ieee.{Float, binary32, ofBits}
-use lib.ListN.{drop, length, replicate}
+use lib.ListN.{length, replicate}
+pub use Rattle.lists.specs.Over.{over}
 use Rattle.plan_format.specs.Plan.{Plan, indexOf, laneCount, laneOf, numberOf, placeLane, placeSection, sectionCount, sectionOf}
 use Rattle.plan_format.specs.Records.{Lane, Link, Place, Section}
-
--- a table that held `old`, with these entries first
-abbrev pub over : {A : Type 0} → List A → List A → List A
-over xs old = xs ++ drop (length xs) old
 
 -- a row for each element, one after the other
 unfoldable pub rows : {X A : Type 0} → (X → List A) → List X → List A

@@ -4,6 +4,7 @@ ghost use Rattle.plan_format.specs.Plan.{refused};
 ghost use Rattle.plan_format.specs.Reading.{readOf};
 
 // A lane by its number, and a road by its number: neither stands for the other, nor for a row of a table.
+#[repr(C)]
 pub struct LaneId(pub usize);
 
 pub struct RoadId(pub usize);

@@ -12,12 +12,10 @@ use Rattle.fields.specs.Fields.{u16At, u8At}
 use Rattle.plan_format.specs.Laws.{Bytes, Each, Room, any-none, drop-next, getD-map-in, word-below}
 use Rattle.plan_format.specs.Lookup.{index-below, index-same}
 use Rattle.plan_format.specs.Plan.{any, fromMissing, repeats}
-use Rattle.plan_format.specs.Reading.{sum}
 use Rattle.plan_format.specs.Records.{Link, linkAt}
 use Rattle.plan_format.specs.Tables.{fanRow, group, linkCount, linkRow, linked, rows, rowsFrom}
 use Rattle.plan_links.specs.Chains.{Keyed, linkKey, linksOf, picks, rowBy, rowsOf, startAt}
 use Rattle.plan_links.specs.Groups.{fansIn, groupsIn}
-use Rattle.plan_scan.specs.Limits.{more}
 use Rattle.plan_scan.specs.Parts.{Roled}
 use Rattle.plan_whole.specs.ByNumber.{ByNumber}
 use Rattle.plan_whole.specs.Keys.{Listed, keyAt}

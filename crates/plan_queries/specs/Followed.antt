@@ -115,8 +115,11 @@ module _ (s : List ℕ) (b : Starts) where
 
       skipped : isQuery (u16At s (at + 4)) ≡ false → b .queries ≡ a .queries ++ R .starts → Rest s at a b
       skipped e q =
-          record
-          { starts = R .starts; all = q; follows = same-follows s at (at + 6 + u32At s at) (map (queryAt s) (R .starts)) (skip-query s at w e) (R .follows) }
+          record {
+            starts = R .starts;
+            all = q;
+            follows = same-follows s at (at + 6 + u32At s at) (map (queryAt s) (R .starts)) (skip-query s at w e) (R .follows);
+          }
 
       go : (b₁ b₂ b₃ b₄ : Bool) → eqb (u16At s (at + 4)) 1 ≡ b₁ → eqb (u16At s (at + 4)) 2 ≡ b₂ → eqb (u16At s (at + 4)) 3 ≡ b₃
           → eqb (u16At s (at + 4)) 4 ≡ b₄

@@ -5,7 +5,6 @@ use mathlib.Core.Path.{refl, _≡_}
 use Prim.Native.Nat.{suc, zero, ℕ, _+_, _-_, _≤_}
 use native.Mathlib.Omega.{arith}
 use lib.Dec.{eqb, leb}
-use lib.Ieee.{eq}
 use lib.ListN.{length}
 use borrow.Author.Tests.{eqb-false, eqb-true, leb-true, ne-eqb}
 use Rattle.fields.specs.Fields.{u16At, u32At}

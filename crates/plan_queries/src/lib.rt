@@ -3,7 +3,7 @@ ghost use mathlib.Core.Path.{_≡_};
 ghost use mathlib.Core.Bool.{true};
 ghost use Prim.Native.Nat.{_+_, _≤_};
 ghost use lib.ListN.{length};
-ghost use Rattle.fields.specs.Fields.{u16At, u32At};
+ghost use Rattle.fields.specs.Fields.{u16At};
 ghost use Rattle.plan_format.specs.Plan.{fits};
 ghost use Rattle.plan_format.specs.Queries.{isQuery, whole, nextQuery};
 ghost use Rattle.plan_format.specs.Records.{queryAt};

@@ -11,7 +11,6 @@ use borrow.Author.Tests.{ltb-false, ltb-true}
 use Rattle.fields.specs.Fields.{u16At}
 use Rattle.plan_format.specs.Laws.{Each, Room, drop-next, drop-none}
 use Rattle.plan_format.specs.Plan.{Starts, holds, numberOf, placeKey, placeLane, planOf, repeats, sectionKey, twice}
-use Rattle.plan_format.specs.Reading.{short}
 use Rattle.plan_format.specs.Records.{laneAt, placeAt, raisedAt, sectionAt}
 use Rattle.plan_format.specs.Tables.{over}
 

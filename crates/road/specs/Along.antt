@@ -2,17 +2,26 @@
 -- `ps` are the lane's points, `sts` the f64 stations of its section, one for each of the n points. Definitions only.
 use mathlib.Core.Bool.{Bool, cond, not, _&&_}
 use mathlib.Core.List.{List}
+use mathlib.Core.Path.{_≡_}
 use Prim.Native.Nat.{ℕ, _+_, _-_, min}
 use lib.ListN.{length, getD, drop}
 use lib.Ieee.{Float, nan, binary32, binary64, add, sub, mul, div, lt, le, ofBits}
 use Rattle.float.specs.Choose.{clampOf}
 use Rattle.float.specs.Narrow.{narrowOf}
 use Rattle.coords.specs.Coords.{zero⁺, one⁺}
-use Rattle.geometry.specs.Polyline.{segmentLength, arcAt, cumulativeOf}
-use Rattle.geometry.specs.Partition.{leading}
+use Rattle.geometry.specs.Polyline.{Line, segmentLength, arcAt, cumulativeOf}
+use Rattle.geometry.specs.Partition.{Rising, leading}
 use Rattle.geometry.specs.Locate.{segmentOf}
 use Rattle.road.specs.declared.OnLane.{OnLane}
 use Rattle.road.specs.declared.OnLane.the-variants.{At, Off}
+
+-- a lane's points with their arc lengths, and a station for each
+pub record Stationed (ps cs sts : List Float) : Type 0 where
+  pub line : Line ps cs
+  pub arcs : cs ≡ cumulativeOf ps (length cs)
+  pub each : length sts ≡ length cs
+  pub arcs-rise : Rising cs
+  pub stations-rise : Rising sts
 
 abbrev pub zero64 : Float
 zero64 = ofBits binary64 0

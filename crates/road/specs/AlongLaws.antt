@@ -1,4 +1,4 @@
--- What the tables hold of a lane with stations, and that the steps of `along` and `station_at` give what their definitions say.
+-- The steps of `along` and `station_at` give what their definitions say.
 use mathlib.Core.Path.{_≡_, refl, sym, ap, ap₂, _∙_, subst}
 use mathlib.Core.Bool.{Bool, true, false, cond, not}
 use mathlib.Core.List.{List, [], _∷_}
@@ -12,22 +12,14 @@ use lib.Ieee.{Float, nan, binary32, add, sub, mul, div, lt, le}
 use Rattle.float.specs.Choose.{clampOf}
 use Rattle.float.specs.Narrow.{narrowOf}
 use Rattle.coords.specs.Coords.{zero⁺, one⁺}
-use Rattle.geometry.specs.Polyline.{Line, segmentLength, arcAt, cumulativeOf}
+use Rattle.geometry.specs.Polyline.{segmentLength, arcAt, cumulativeOf}
 use Rattle.geometry.specs.PolylineLaws.{cumulative-at}
 use Rattle.geometry.specs.Partition.{leading, Rising, Falling, rising-rest, is-true}
 use Rattle.geometry.specs.Locate.{segmentOf}
 use Rattle.geometry.specs.LocateLaws.{segment-inside}
 use Rattle.geometry.specs.Order.{le-trans}
 use Rattle.road.specs.declared.OnLane.the-variants.{At, Off}
-use Rattle.road.specs.Along.{fractionAt, alongOf, shortOf, reachedBy, partOf, stationOn, stationOf, centerlineOf}
-
--- a lane's points with their arc lengths, and a station for each
-pub record Stationed (ps cs sts : List Float) : Type 0 where
-  pub line : Line ps cs
-  pub arcs : cs ≡ cumulativeOf ps (length cs)
-  pub each : length sts ≡ length cs
-  pub arcs-rise : Rising cs
-  pub stations-rise : Rising sts
+use Rattle.road.specs.Along.{Stationed, fractionAt, alongOf, shortOf, reachedBy, partOf, stationOn, stationOf, centerlineOf}
 
 -- ---- the search of `station_at` looks at the ends of the segments: the arc lengths from the second on
 pub ends-rise : (cs : List Float) → Rising cs → Rising (drop 1 cs)

@@ -7,8 +7,7 @@ ghost use lib.ListN.{length};
 ghost use Rattle.geometry.specs.Partition.{leading, atMost, Rising};
 ghost use Rattle.geometry.specs.Locate.{segmentOf};
 ghost use Rattle.road.specs.Section.{sectionAt};
-ghost use Rattle.road.specs.Along.{fractionAt, alongOf, shortOf, reachedBy, partOf, stationOn, stationOf, centerlineOf};
-ghost use Rattle.road.specs.AlongLaws.{Stationed};
+ghost use Rattle.road.specs.Along.{Stationed, fractionAt, alongOf, shortOf, reachedBy, partOf, stationOn, stationOf, centerlineOf};
 
 // A lane section of a road: where it starts and ends, and its rows among the stations.
 pub struct RoadSection {

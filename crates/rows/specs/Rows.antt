@@ -23,12 +23,15 @@ typeOf lanes i = getD lanes (6 * i + 1) 0
 abbrev pub directionOf : List ℕ → ℕ → ℕ
 directionOf lanes i = getD lanes (6 * i + 2) 0
 
--- its first point, and the end of its points
+-- its first point, how many it has, and their end
 abbrev pub firstPoint : List ℕ → ℕ → ℕ
 firstPoint lanes i = getD lanes (6 * i + 4) 0
 
+abbrev pub pointCount : List ℕ → ℕ → ℕ
+pointCount lanes i = getD lanes (6 * i + 5) 0
+
 abbrev pub endPoint : List ℕ → ℕ → ℕ
-endPoint lanes i = firstPoint lanes i + getD lanes (6 * i + 5) 0
+endPoint lanes i = firstPoint lanes i + pointCount lanes i
 
 -- its points (x y z of each), the arc length and the tangent (x y z) at each
 abbrev pub pointsOf : List ℕ → List Float → ℕ → List Float
@@ -78,8 +81,8 @@ abbrev pub placedSection : List ℕ → ℕ → ℕ
 placedSection places p = getD places (3 * p + 1) 0
 
 -- the OpenDRIVE lane number plus 2^31, which keeps the order
-abbrev pub openDriveNumber : List ℕ → ℕ → ℕ
-openDriveNumber places p = getD places (3 * p + 2) 0
+abbrev pub raisedNumber : List ℕ → ℕ → ℕ
+raisedNumber places p = getD places (3 * p + 2) 0
 
 -- ---- row j of `bounds` and of `sections`: where a section starts and ends, and its stations
 

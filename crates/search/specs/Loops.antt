@@ -3,7 +3,7 @@ use mathlib.Core.Bool.{Bool, cond, false, not, true, _&&_, _||_}
 use mathlib.Core.List.{List, [], _++_, _∷_}
 use mathlib.Core.Logic.{inl, inr, _⊎_, _≢_}
 use mathlib.Core.Path.{ap, refl, sym, _∙_, _≡_}
-use Prim.Native.Nat.{suc, zero, ℕ, _*_, _+_, _-_, _<_, _≤_}
+use Prim.Native.Nat.{suc, zero, ℕ, _+_, _-_, _<_, _≤_}
 use native.Mathlib.Nat.{le-of-suc-le-suc, not-suc-le-zero}
 use native.Mathlib.Numerals.{add-one}
 use native.Mathlib.Omega.{arith}
@@ -12,12 +12,14 @@ use lib.Ieee.{Float, add, binary32, inf, lt, nan, ofBits}
 use lib.Seq.{getD-drop, take-all}
 use lib.ListN.{List·getD-eq-default, drop, drop-of-length-le, getD, length, length-drop, length-set, replicate, set, take}
 use borrow.Author.Tests.{eq-eqb, le-ltb, lt-ltb, ne-eqb}
+use Rattle.plan_format.specs.Laws.{getD-any}
+use Rattle.rows.specs.Rows.{firstLink, firstNeighbour, laneNumber, leadsTo, neighbours, successors}
 use Rattle.search.specs.declared.Ended.{Ended}
 use Rattle.search.specs.declared.Search.{Search}
 use Rattle.search.specs.Search.{Edge, Result, State, blank, distOf, expanded, found, leastOpen, marked, precedes, rebuild, refused}
 use Rattle.search.specs.Search.{relaxed, run, searched, settled}
-use Rattle.search.specs.LaneGraph.{LaneGraph, answer, answerOf, edges, expandedIn, f32Costs, firstLink, firstNeighbour, laneChange}
-use Rattle.search.specs.LaneGraph.{lengthOf, neighbours, numberOf, out, searchedIn, settledIn, successors}
+use Rattle.search.specs.LaneGraph.{LaneGraph, answer, answerOf, edges, expandedIn, f32Costs, laneChange}
+use Rattle.search.specs.LaneGraph.{lengthOf, out, searchedIn, settledIn}
 
 -- the struct of the code, as the state of the definition
 abbrev pub stateOf : Search → State Float
@@ -33,12 +35,6 @@ pub record Sized (s : Search) : Type 0 where
 -- the struct holds the state t
 abbrev pub Holds : Search → State Float → Type 0
 Holds s t = (stateOf s ≡ t) × Sized s
-
--- below the length, what stands past the end does not matter
-pub getD-any : {A : Type 0} (l : List A) (i : ℕ) (a b : A) → i < length l → getD l i a ≡ getD l i b
-getD-any [] i a b h = absurd (not-suc-le-zero h)
-getD-any (x ∷ xs) zero a b h = refl
-getD-any (x ∷ xs) (suc i) a b h = getD-any xs i a b (le-of-suc-le-suc h)
 
 pub replicate-all : {C : Type 0} (n i : ℕ) (a : C) → getD (replicate n a) i a ≡ a
 replicate-all zero i a = refl
@@ -82,7 +78,7 @@ relaxing-starts X s z h = record { within = h; sized = z; rest = refl }
 
 module _ (X : LinkRows) (s₀ s : Search) (at : ℕ) (R : Relaxing X s₀ s at) where
   abbrev next : ℕ
-  next = getD (X .links) (2 * at + 1) 0
+  next = leadsTo (X .links) at
 
   pub relaxing-ends : X .end ≤ at → Holds s (expandedFrom X (X .first) (stateOf s₀))
   unfolding edges expanded
@@ -114,30 +110,30 @@ expanded-append u c (e ∷ xs) ys s = expanded-append u c xs ys (relaxed f32Cost
 module _ (G : LaneGraph) (u : ℕ) (cost : Float) where
   abbrev pub successorsRelaxed : State Float → State Float
   successorsRelaxed s =
-      let first = firstLink G u in
-      expandedFrom (linkRows (G .links) (G .count) u cost (lengthOf G u) first (first + successors G u)) first s
+      let first = firstLink (G .fans) u in
+      expandedFrom (linkRows (G .links) (G .count) u cost (lengthOf G u) first (first + successors (G .fans) u)) first s
 
   abbrev pub neighboursRelaxed : State Float → State Float
   neighboursRelaxed s =
-      let first = firstNeighbour G u in
-      expandedFrom (linkRows (G .links) (G .count) u cost laneChange first (first + neighbours G u)) first s
+      let first = firstNeighbour (G .fans) u in
+      expandedFrom (linkRows (G .links) (G .count) u cost laneChange first (first + neighbours (G .fans) u)) first s
 
   pub expanded-out : (s : State Float) → neighboursRelaxed (successorsRelaxed s) ≡ expandedIn G u cost s
   unfolding out
   expanded-out s =
-      rw (back (firstLink G u) (successors G u), back (firstNeighbour G u) (neighbours G u))
+      rw (back (firstLink (G .fans) u) (successors (G .fans) u), back (firstNeighbour (G .fans) u) (neighbours (G .fans) u))
       (sym (expanded-append u cost
-      (edges (G .links) (G .count) (lengthOf G u) (firstLink G u) (successors G u))
-      (edges (G .links) (G .count) laneChange (firstNeighbour G u) (neighbours G u)) s))
+      (edges (G .links) (G .count) (lengthOf G u) (firstLink (G .fans) u) (successors (G .fans) u))
+      (edges (G .links) (G .count) laneChange (firstNeighbour (G .fans) u) (neighbours (G .fans) u)) s))
     where
       back : (a b : ℕ) → a + b - a ≡ b
       back a b = omega arith
 
 -- ---- `least`
 pub record Scan (lanes : List ℕ) (s : Search) (i best : ℕ) (cost : Float) (number : ℕ) : Type 0 where
-  pub is : best ≡ leastOpen f32Costs (numberOf lanes) 256 (stateOf s) i
+  pub is : best ≡ leastOpen f32Costs (laneNumber lanes) 256 (stateOf s) i
   pub cost-is : cost ≡ distOf f32Costs (stateOf s) best
-  pub number-is : (best ≡ 256) ⊎ (number ≡ numberOf lanes best)
+  pub number-is : (best ≡ 256) ⊎ (number ≡ laneNumber lanes best)
 
 -- against a lane without an entry the numbers do not matter
 precedes-unreached : (m : ℕ) (d : Float) (x y z : ℕ) → precedes f32Costs m d x (inf false) y ≡ precedes f32Costs m d x (inf false) z
@@ -150,35 +146,35 @@ precedes-unreached m d x y z = go (lt d (inf false))
 
 module _ (lanes : List ℕ) (s : Search) (Z : Sized s) (i best : ℕ) (cost : Float) (number : ℕ) (S : Scan lanes s i best cost number)
     (l : i < 256) (b : Bool)
-    (e : b ≡ precedes f32Costs (getD (s .closed) i 0) (getD (s .dist) i nan) (numberOf lanes i) cost number) where
+    (e : b ≡ precedes f32Costs (getD (s .closed) i 0) (getD (s .dist) i nan) (laneNumber lanes i) cost number) where
   dist-at : getD (s .dist) i nan ≡ distOf f32Costs (stateOf s) i
   dist-at = getD-any (s .dist) i nan (inf false) (omega (arith, Z .dist))
 
   -- the test of the definition
   abbrev test : ℕ → Bool
-  test y = precedes f32Costs (getD (s .closed) i 1) (distOf f32Costs (stateOf s) i) (numberOf lanes i) (distOf f32Costs (stateOf s) best) y
+  test y = precedes f32Costs (getD (s .closed) i 1) (distOf f32Costs (stateOf s) i) (laneNumber lanes i) (distOf f32Costs (stateOf s) best) y
 
-  test-is : (best ≡ 256) ⊎ (number ≡ numberOf lanes best) → test number ≡ test (numberOf lanes best)
+  test-is : (best ≡ 256) ⊎ (number ≡ laneNumber lanes best) → test number ≡ test (laneNumber lanes best)
   test-is (inr q) = ap test q
   test-is (inl q) =
       let far : distOf f32Costs (stateOf s) best ≡ inf false = List·getD-eq-default (s .dist) (inf false) (omega (arith, Z .dist)) in
-      rw far (precedes-unreached (getD (s .closed) i 1) (distOf f32Costs (stateOf s) i) (numberOf lanes i) number (numberOf lanes best))
+      rw far (precedes-unreached (getD (s .closed) i 1) (distOf f32Costs (stateOf s) i) (laneNumber lanes i) number (laneNumber lanes best))
 
-  scanned : cond b i best ≡ leastOpen f32Costs (numberOf lanes) 256 (stateOf s) (i + 1)
+  scanned : cond b i best ≡ leastOpen f32Costs (laneNumber lanes) 256 (stateOf s) (i + 1)
   unfolding leastOpen
   scanned =
       let m : getD (s .closed) i 0 ≡ getD (s .closed) i 1 = getD-any (s .closed) i 0 1 (omega (arith, Z .closed)) in
-      let t : b ≡ test (numberOf lanes best) = rw (e, m, dist-at, S .cost-is) (test-is (S .number-is)) in
+      let t : b ≡ test (laneNumber lanes best) = rw (e, m, dist-at, S .cost-is) (test-is (S .number-is)) in
       rw (add-one, t, S .is)
 
   pub scan-takes : b ≡ true → (best′ : ℕ) (cost′ : Float) (number′ : ℕ) → best′ ≡ i → cost′ ≡ getD (s .dist) i nan
-      → number′ ≡ numberOf lanes i
+      → number′ ≡ laneNumber lanes i
       → Scan lanes s (i + 1) best′ cost′ number′
   scan-takes t best′ cost′ number′ eb ec en =
       record {
         is = eb ∙ ap (λ (y : Bool). cond y i best) (sym t) ∙ scanned;
         cost-is = ec ∙ dist-at ∙ ap (distOf f32Costs (stateOf s)) (sym eb);
-        number-is = inr (en ∙ ap (numberOf lanes) (sym eb));
+        number-is = inr (en ∙ ap (laneNumber lanes) (sym eb));
       }
 
   pub scan-skips : b ≡ false → (best′ : ℕ) (cost′ : Float) (number′ : ℕ) → best′ ≡ best → cost′ ≡ cost → number′ ≡ number
@@ -196,16 +192,16 @@ scan-starts lanes s Z cost number e =
     record { is = refl; cost-is = e ∙ sym (List·getD-eq-default (s .dist) (inf false) (omega (arith, Z .dist))); number-is = inl refl }
 
 -- a lane below the count, or none
-pub least-below : (lanes : List ℕ) (s : State Float) (k : ℕ) → leastOpen f32Costs (numberOf lanes) 256 s k ≢ 256
-    → leastOpen f32Costs (numberOf lanes) 256 s k < k
+pub least-below : (lanes : List ℕ) (s : State Float) (k : ℕ) → leastOpen f32Costs (laneNumber lanes) 256 s k ≢ 256
+    → leastOpen f32Costs (laneNumber lanes) 256 s k < k
 unfolding leastOpen
 least-below lanes s zero h = absurd (h refl)
 least-below lanes s (suc k) h =
-    go (precedes f32Costs (getD (s .closed) k 1) (distOf f32Costs s k) (numberOf lanes k) (distOf f32Costs s b) (numberOf lanes b))
+    go (precedes f32Costs (getD (s .closed) k 1) (distOf f32Costs s k) (laneNumber lanes k) (distOf f32Costs s b) (laneNumber lanes b))
     (least-below lanes s k) h
   where
     b : ℕ
-    b = leastOpen f32Costs (numberOf lanes) 256 s k
+    b = leastOpen f32Costs (laneNumber lanes) 256 s k
 
     go : (t : Bool) → (b ≢ 256 → b < k) → cond t k b ≢ 256 → cond t k b < suc k
     go true i h = omega arith
@@ -217,7 +213,7 @@ ended ok s = record { ok = ok; search = s }
 
 module _ (lanes : List ℕ) (G : LaneGraph) (goal : ℕ) where
   abbrev pub runFrom : ℕ → ℕ → State Float → Result Float
-  runFrom start k s = run f32Costs (numberOf lanes) (out G) 256 (G .count) start goal k s
+  runFrom start k s = run f32Costs (laneNumber lanes) (out G) 256 (G .count) start goal k s
 
   -- what the definition answers where the search ends in the state s
   abbrev pub outcome : Bool → ℕ → State Float → Result Float
@@ -234,7 +230,7 @@ module _ (lanes : List ℕ) (G : LaneGraph) (goal : ℕ) where
 
   module _ (s₀ s : Search) where
     abbrev leastNow : ℕ
-    leastNow = leastOpen f32Costs (numberOf lanes) 256 (stateOf s) (G .count)
+    leastNow = leastOpen f32Costs (laneNumber lanes) 256 (stateOf s) (G .count)
 
     pub finding-none : (k u : ℕ) → Finding s₀ s k → 0 < k → u ≡ leastNow → u ≡ 256 → Found s₀ (ended false s)
     unfolding run

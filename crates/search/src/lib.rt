@@ -5,8 +5,9 @@ ghost use mathlib.Core.Path.{_≡_};
 ghost use Prim.Native.Nat.{_<_, _≤_, _-_, _*_};
 ghost use lib.Ieee.{inf};
 ghost use lib.ListN.{length};
+ghost use Rattle.rows.specs.Rows.{laneNumber};
 ghost use Rattle.search.specs.Search.{blank, expanded, leastOpen, precedes, refused, relaxed};
-ghost use Rattle.search.specs.LaneGraph.{Readable, answerOf, edges, expandedIn, f32Costs, laneGraph, numberOf, searchedIn, settledIn};
+ghost use Rattle.search.specs.LaneGraph.{Readable, answerOf, edges, expandedIn, f32Costs, laneGraph, searchedIn, settledIn};
 ghost use Rattle.search.specs.Loops.{Found, Holds, Rebuilt, Sized, front, stateOf};
 
 // The cost of a lane change.
@@ -111,21 +112,18 @@ fn expand(
     )
 }
 
-// Whether a lane with this mark, distance and number goes before the best one so far.
+// Whether a lane with this mark, distance and number goes before the best one so far. Most lanes do not, by the first test.
 fn is_before(mark: u8, d: f32, x: usize, cost: f32, number: usize) -> bool
     ensures { λ r. ⌜ r ≡ precedes f32Costs mark d x cost number ⌝ }
 {
-    if mark != 0 {
-        return false;
-    }
-    let top = unreached();
-    if !(d < top) {
+    if (mark != 0) | (cost < d) {
         return false;
     }
     if d < cost {
         return true;
     }
-    if cost < d {
+    let top = unreached();
+    if !(d < top) {
         return false;
     }
     number < x
@@ -134,7 +132,7 @@ fn is_before(mark: u8, d: f32, x: usize, cost: f32, number: usize) -> bool
 // The open lane of least cost, the larger number among equals; 256 where none is open.
 fn least(search: Search, count: usize, lanes: &[usize]) -> usize
     requires { ⌜ Sized search × (count ≤ 256) × (6 * count ≤ length (now lanes)) ⌝ }
-    ensures { λ r. ⌜ r ≡ leastOpen f32Costs (numberOf (now (lanes .entry))) 256 (stateOf search) count ⌝ }
+    ensures { λ r. ⌜ r ≡ leastOpen f32Costs (laneNumber (now (lanes .entry))) 256 (stateOf search) count ⌝ }
 {
     let mut best: usize = 256;
     let mut cost = unreached();

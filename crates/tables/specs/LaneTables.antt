@@ -1,9 +1,9 @@
 -- The tables that a public call is lent: the nine of a plan, and for each of its points the arc length and the tangent. What they hold of a plan,
 -- and what they hold on return, for every file and all tables. Definitions only.
 use mathlib.Core.Bool.{Bool, not, _||_}
-use mathlib.Core.List.{List}
+use mathlib.Core.List.{List, []}
 use mathlib.Core.Path.{_≡_}
-use Prim.Native.Nat.{_*_}
+use Prim.Native.Nat.{ℕ, _*_}
 use lib.Dec.{eqb, ltb}
 use lib.Ieee.{Float}
 use lib.ListN.{length}
@@ -12,13 +12,26 @@ use Rattle.geometry.specs.declared.Ends.{Ends}
 use Rattle.plan_format.specs.Plan.{Decoded, Plan, accepted, refused}
 use Rattle.plan_format.specs.Reading.{readOf, short}
 use Rattle.plan_format.specs.Records.{Lane}
-use Rattle.plan_format.specs.Tables.{Tables, endRow, loaded, over, planRows, rows}
+use Rattle.plan_format.specs.Tables.{Tables, endRow, loaded, over, planRows, rows, tables}
 use Rattle.plan_format.specs.declared.Read.{Read}
 
 pub record LaneTables : Type 0 where
   pub plan : Tables
   pub cumulative : List Float
   pub tangents : List Float
+
+abbrev pub laneTables : List ℕ → List Float → List Float → List ℕ → List ℕ → List ℕ → List Float → List Float → List ℕ → List Float
+    → List Float → LaneTables
+laneTables lanes points ends fans links sections bounds stations places cumulative tangents =
+    record {
+      plan = tables lanes points ends fans links sections bounds stations places;
+      cumulative = cumulative;
+      tangents = tangents;
+    }
+
+-- stands for a lane past the last
+abbrev pub noLane : Lane
+noLane = record { number = 0; type = 0; direction = 0; ends = 0; count = 0; points = []; tangents = [] }
 
 -- the arc length at each point of a lane
 abbrev pub cumulativeRow : Lane → List Float
@@ -59,7 +72,7 @@ pub record Opens (d : Decoded) (r : Read) (t t′ : LaneTables) : Type 0 where
   pub read : r ≡ readOf d
   pub tables : t′ ≡ tablesAfter d t
 
--- the whole promise of a public call that writes no list: it answers `answer`, and the tables t′ on return
+-- the whole promise of a public call: it answers `answer`, of which the lists that it writes are part, and the tables t′ on return
 pub record Calls {R : Type 0} (d : Decoded) (answer r : R) (t t′ : LaneTables) : Type 0 where
   pub answer-is : r ≡ answer
   pub tables : t′ ≡ tablesAfter d t

@@ -7,8 +7,8 @@ use borrow.Author.Tests.{not-true, not-false}
 use Rattle.branches.specs.Tables.{tables}
 use Rattle.advance.specs.QueryLaws.{query-unknown, query-unplaced, query-off, query-endless, query-answered}
 
-lane-row-requires : tie.Need-lane-row-requires
-lane-row-requires c κs = search needs
+find-lane-requires : tie.Need-find-lane-requires
+find-lane-requires c κs = search needs
 
 refused-requires : tie.Need-refused-requires
 refused-requires c κs = search needs
@@ -19,14 +19,14 @@ returns c =
     let c₁ = c .before in
     let if1 = c₁ .if1 in
     let c₂ = c₁ .before in
-    let lane-row = c₂ .lane-row in
+    let find-lane = c₂ .find-lane in
     let c₃ = c₂ .before .before .before .before .before .before .before .before .before .before .before .before in
     let a = c₃ .args in
     let t =
     tables (a .lanes .now) (a .n) (a .points .now) (a .cumulative .now) (a .fans .now) (a .links .now) (a .sections .now)
     (a .stations .now) (a .places .now) (a .m)
     in
-    query-unknown t (a .bounds .now) (a .from) (a .distance) (a .rows .now) (a .positions .now) (lane-row .result) (lane-row .ensures)
+    query-unknown t (a .bounds .now) (a .from) (a .distance) (a .rows .now) (a .positions .now) (find-lane .result) (find-lane .ensures)
     (refused .result) (refused .ensures) (if1 .taken)
 
 mul-p : tie.Need-mul-p
@@ -52,14 +52,14 @@ returns-2 c =
     let c₂ = c₁ .before .before in
     let if1 = c₂ .if1 in
     let c₃ = c₂ .before in
-    let lane-row = c₃ .lane-row in
+    let find-lane = c₃ .find-lane in
     let c₄ = c₃ .before .before .before .before .before .before .before .before .before .before .before .before in
     let a = c₄ .args in
     let t =
     tables (a .lanes .now) (a .n) (a .points .now) (a .cumulative .now) (a .fans .now) (a .links .now) (a .sections .now)
     (a .stations .now) (a .places .now) (a .m)
     in
-    query-unplaced t (a .bounds .now) (a .from) (a .distance) (a .rows .now) (a .positions .now) (lane-row .result) (lane-row .ensures)
+    query-unplaced t (a .bounds .now) (a .from) (a .distance) (a .rows .now) (a .positions .now) (find-lane .result) (find-lane .ensures)
     (if1 .left) (refused2 .result) (refused2 .ensures) (if2 .taken)
 
 mul-j : tie.Need-mul-j
@@ -68,10 +68,10 @@ mul-j c =
     let c₁ = c .before .before in
     let if1 = c₁ .if1 in
     let c₂ = c₁ .before in
-    let lane-row = c₂ .lane-row in
+    let find-lane = c₂ .find-lane in
     let c₃ = c₂ .before .before .before .before .before .before .before .before .before .before .before .before in
     let pre = c₃ .pre in
-    omega (arith, pre .0 .ending (lane-row .result) (if1 .left) (if2 .left) .place-row)
+    omega (arith, pre .0 .ending (find-lane .result) (if1 .left) (if2 .left) .place-row)
 
 add-j : tie.Need-add-j
 add-j c =
@@ -79,10 +79,10 @@ add-j c =
     let c₁ = c .before .before in
     let if1 = c₁ .if1 in
     let c₂ = c₁ .before in
-    let lane-row = c₂ .lane-row in
+    let find-lane = c₂ .find-lane in
     let c₃ = c₂ .before .before .before .before .before .before .before .before .before .before .before .before in
     let pre = c₃ .pre in
-    omega (arith, pre .0 .ending (lane-row .result) (if1 .left) (if2 .left) .place-row)
+    omega (arith, pre .0 .ending (find-lane .result) (if1 .left) (if2 .left) .place-row)
 
 mul-j-2 : tie.Need-mul-j-2
 mul-j-2 c =
@@ -90,10 +90,10 @@ mul-j-2 c =
     let c₁ = c .before .before in
     let if1 = c₁ .if1 in
     let c₂ = c₁ .before in
-    let lane-row = c₂ .lane-row in
+    let find-lane = c₂ .find-lane in
     let c₃ = c₂ .before .before .before .before .before .before .before .before .before .before .before .before in
     let pre = c₃ .pre in
-    omega (arith, pre .0 .ending (lane-row .result) (if1 .left) (if2 .left) .place-row)
+    omega (arith, pre .0 .ending (find-lane .result) (if1 .left) (if2 .left) .place-row)
 
 shared-slice-read-j : tie.Need-shared-slice-read-j
 shared-slice-read-j c =
@@ -102,10 +102,10 @@ shared-slice-read-j c =
     let c₂ = c₁ .before .before in
     let if1 = c₂ .if1 in
     let c₃ = c₂ .before in
-    let lane-row = c₃ .lane-row in
+    let find-lane = c₃ .find-lane in
     let c₄ = c₃ .before .before .before .before .before .before .before .before .before .before .before .before in
     let pre = c₄ .pre in
-    omega (arith, pre .0 .ending (lane-row .result) (if1 .left) (if2 .left) .place-row)
+    omega (arith, pre .0 .ending (find-lane .result) (if1 .left) (if2 .left) .place-row)
 
 is-in-section-requires : tie.Need-is-in-section-requires
 is-in-section-requires c κs =
@@ -114,10 +114,10 @@ is-in-section-requires c κs =
     let c₂ = c₁ .before .before in
     let if1 = c₂ .if1 in
     let c₃ = c₂ .before in
-    let lane-row = c₃ .lane-row in
+    let find-lane = c₃ .find-lane in
     let c₄ = c₃ .before .before .before .before .before .before .before .before .before .before .before .before in
     let pre = c₄ .pre in
-    pre .1 (lane-row .result) (if1 .left) (if2 .left)
+    pre .1 (find-lane .result) (if1 .left) (if2 .left)
 
 refused-requires-3 : tie.Need-refused-requires-3
 refused-requires-3 c κs = search needs
@@ -134,14 +134,14 @@ returns-3 c =
     let c₄ = c₃ .before .before in
     let if1 = c₄ .if1 in
     let c₅ = c₄ .before in
-    let lane-row = c₅ .lane-row in
+    let find-lane = c₅ .find-lane in
     let c₆ = c₅ .before .before .before .before .before .before .before .before .before .before .before .before in
     let a = c₆ .args in
     let t =
     tables (a .lanes .now) (a .n) (a .points .now) (a .cumulative .now) (a .fans .now) (a .links .now) (a .sections .now)
     (a .stations .now) (a .places .now) (a .m)
     in
-    query-off t (a .bounds .now) (a .from) (a .distance) (a .rows .now) (a .positions .now) (lane-row .result) (lane-row .ensures)
+    query-off t (a .bounds .now) (a .from) (a .distance) (a .rows .now) (a .positions .now) (find-lane .result) (find-lane .ensures)
     (if1 .left) (if2 .left) (is-in-section .result) (is-in-section .ensures) (refused3 .result) (refused3 .ensures)
     (not-true (is-in-section .result) (if3 .taken))
 
@@ -167,14 +167,14 @@ returns-4 c =
     let c₆ = c₅ .before .before in
     let if1 = c₆ .if1 in
     let c₇ = c₆ .before in
-    let lane-row = c₇ .lane-row in
+    let find-lane = c₇ .find-lane in
     let c₈ = c₇ .before .before .before .before .before .before .before .before .before .before .before .before in
     let a = c₈ .args in
     let t =
     tables (a .lanes .now) (a .n) (a .points .now) (a .cumulative .now) (a .fans .now) (a .links .now) (a .sections .now)
     (a .stations .now) (a .places .now) (a .m)
     in
-    query-endless t (a .bounds .now) (a .from) (a .distance) (a .rows .now) (a .positions .now) (lane-row .result) (lane-row .ensures)
+    query-endless t (a .bounds .now) (a .from) (a .distance) (a .rows .now) (a .positions .now) (find-lane .result) (find-lane .ensures)
     (if1 .left) (if2 .left) (is-in-section .result) (is-in-section .ensures) (not-false (is-in-section .result) (if3 .left))
     (is-finite64 .result) (is-finite64 .ensures) (refused4 .result) (refused4 .ensures) (not-true (is-finite64 .result) (if4 .taken))
 
@@ -185,14 +185,14 @@ arc-at-requires c κs =
     let c₂ = c₁ .before .before in
     let if1 = c₂ .if1 in
     let c₃ = c₂ .before in
-    let lane-row = c₃ .lane-row in
+    let find-lane = c₃ .find-lane in
     let c₄ = c₃ .before .before .before .before .before .before .before .before .before .before .before .before in
     let pre = c₄ .pre in
-    let e = pre .0 .ending (lane-row .result) (if1 .left) (if2 .left) in
-    (pre .0 .laid (lane-row .result) (if1 .left), e .section-row, e .stations-end, e .stationed)
+    let e = pre .0 .ending (find-lane .result) (if1 .left) (if2 .left) in
+    (pre .0 .laid (find-lane .result) (if1 .left), e .section-row, e .stations-end, e .stationed)
 
-explore-requires : tie.Need-explore-requires
-explore-requires c κs = search needs
+lend-arrays-requires : tie.Need-lend-arrays-requires
+lend-arrays-requires c κs = search needs
 
 same-length : tie.Need-same-length
 same-length c = search needs
@@ -203,7 +203,7 @@ same-length-2 c = search needs
 returns-5 : tie.Need-returns-5
 returns-5 c =
     let c₁ = c .before .before .before .before in
-    let explore = c₁ .explore in
+    let lend-arrays = c₁ .lend-arrays in
     let c₂ = c₁ .before .before .before in
     let arc-at = c₂ .arc-at in
     let c₃ = c₂ .before in
@@ -219,23 +219,23 @@ returns-5 c =
     let c₈ = c₇ .before .before in
     let if1 = c₈ .if1 in
     let c₉ = c₈ .before in
-    let lane-row = c₉ .lane-row in
+    let find-lane = c₉ .find-lane in
     let c₁₀ = c₉ .before .before .before .before .before .before .before .before .before .before .before .before in
     let a = c₁₀ .args in
     let t =
     tables (a .lanes .now) (a .n) (a .points .now) (a .cumulative .now) (a .fans .now) (a .links .now) (a .sections .now)
     (a .stations .now) (a .places .now) (a .m)
     in
-    query-answered t (a .bounds .now) (a .from) (a .distance) (a .rows .now) (a .positions .now) (lane-row .result) (lane-row .ensures)
+    query-answered t (a .bounds .now) (a .from) (a .distance) (a .rows .now) (a .positions .now) (find-lane .result) (find-lane .ensures)
     (if1 .left) (if2 .left) (is-in-section .result) (is-in-section .ensures) (not-false (is-in-section .result) (if3 .left))
-    (is-finite64 .result) (is-finite64 .ensures) (not-false (is-finite64 .result) (if4 .left)) (explore .result) _ _ (arc-at .result)
-    (arc-at .ensures) (explore .ensures)
+    (is-finite64 .result) (is-finite64 .ensures) (not-false (is-finite64 .result) (if4 .left)) (lend-arrays .result) _ _ (arc-at .result)
+    (arc-at .ensures) (lend-arrays .ensures)
 
 pub advance-spec : {M : Type 1} → statement M
 advance-spec =
     tie.close
     (tie.spec
-    lane-row-requires
+    find-lane-requires
     refused-requires
     returns
     mul-p
@@ -255,7 +255,7 @@ advance-spec =
     refused-requires-4
     returns-4
     arc-at-requires
-    explore-requires
+    lend-arrays-requires
     same-length
     same-length-2
     returns-5)

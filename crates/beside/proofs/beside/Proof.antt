@@ -9,8 +9,8 @@ use lib.ListN.{getD}
 use borrow.Author.Tests.{not-true, not-false}
 use Rattle.beside.specs.BesideLaws.{unknown, unplaced, off, alone, beside-it}
 
-lane-row-requires : tie.Need-lane-row-requires
-lane-row-requires c κs = search needs
+find-lane-requires : tie.Need-find-lane-requires
+find-lane-requires c κs = search needs
 
 refused-requires : tie.Need-refused-requires
 refused-requires c κs = search needs
@@ -21,11 +21,11 @@ returns c =
     let c₁ = c .before in
     let if1 = c₁ .if1 in
     let c₂ = c₁ .before in
-    let lane-row = c₂ .lane-row in
+    let find-lane = c₂ .find-lane in
     let c₃ = c₂ .before .before .before .before .before in
     let a = c₃ .args in
     refused .ensures ∙ unknown (a .lanes .now) (a .n) (a .fans .now) (a .places .now) (a .m) (a .bounds .now) (a .at) (a .side)
-    (lane-row .result) (lane-row .ensures) (if1 .taken)
+    (find-lane .result) (find-lane .ensures) (if1 .taken)
 
 mul-p : tie.Need-mul-p
 mul-p c = search needs
@@ -50,11 +50,11 @@ returns-2 c =
     let c₂ = c₁ .before .before in
     let if1 = c₂ .if1 in
     let c₃ = c₂ .before in
-    let lane-row = c₃ .lane-row in
+    let find-lane = c₃ .find-lane in
     let c₄ = c₃ .before .before .before .before .before in
     let a = c₄ .args in
     refused2 .ensures ∙ unplaced (a .lanes .now) (a .n) (a .fans .now) (a .places .now) (a .m) (a .bounds .now) (a .at) (a .side)
-    (lane-row .result) (lane-row .ensures) (if1 .left) (if2 .taken)
+    (find-lane .result) (find-lane .ensures) (if1 .left) (if2 .taken)
 
 mul-j : tie.Need-mul-j
 mul-j c = search needs
@@ -73,11 +73,11 @@ is-in-section-requires c κs =
     let c₁ = c .before in
     let if2 = c₁ .if2 in
     let c₂ = c₁ .before .before .before in
-    let lane-row = c₂ .lane-row in
+    let find-lane = c₂ .find-lane in
     let c₃ = c₂ .before .before .before .before .before in
     let args = c₃ .args in
     let pre = c₃ .pre in
-    pre .place-section (getD (args .fans .now) (5 * (lane-row .result) + 4) 0) (if2 .left)
+    pre .place-section (getD (args .fans .now) (5 * (find-lane .result) + 4) 0) (if2 .left)
 
 refused-requires-3 : tie.Need-refused-requires-3
 refused-requires-3 c κs = search needs
@@ -94,11 +94,11 @@ returns-3 c =
     let c₄ = c₃ .before .before in
     let if1 = c₄ .if1 in
     let c₅ = c₄ .before in
-    let lane-row = c₅ .lane-row in
+    let find-lane = c₅ .find-lane in
     let c₆ = c₅ .before .before .before .before .before in
     let a = c₆ .args in
     refused3 .ensures ∙ off (a .lanes .now) (a .n) (a .fans .now) (a .places .now) (a .m) (a .bounds .now) (a .at) (a .side)
-    (lane-row .result) (lane-row .ensures) (if1 .left) (if2 .left) (is-in-section .result) (is-in-section .ensures)
+    (find-lane .result) (find-lane .ensures) (if1 .left) (if2 .left) (is-in-section .result) (is-in-section .ensures)
     (not-true (is-in-section .result) (if3 .taken))
 
 mul-is-toward-larger : tie.Need-mul-is-toward-larger
@@ -152,11 +152,11 @@ returns-4 c =
     let c₇ = c₆ .before .before in
     let if1 = c₇ .if1 in
     let c₈ = c₇ .before in
-    let lane-row = c₈ .lane-row in
+    let find-lane = c₈ .find-lane in
     let c₉ = c₈ .before .before .before .before .before in
     let a = c₉ .args in
     refused4 .ensures ∙ alone (a .lanes .now) (a .n) (a .fans .now) (a .places .now) (a .m) (a .bounds .now) (a .at) (a .side)
-    (lane-row .result) (lane-row .ensures) (if1 .left) (if2 .left) (is-in-section .result) (is-in-section .ensures)
+    (find-lane .result) (find-lane .ensures) (if1 .left) (if2 .left) (is-in-section .result) (is-in-section .ensures)
     (not-false (is-in-section .result) (if3 .left)) (is-toward-larger .result) (is-toward-larger .ensures) (next-row .result)
     (next-row .ensures) (if4 .taken)
 
@@ -219,11 +219,11 @@ returns-5 c =
     let c₇ = c₆ .before .before in
     let if1 = c₇ .if1 in
     let c₈ = c₇ .before in
-    let lane-row = c₈ .lane-row in
+    let find-lane = c₈ .find-lane in
     let c₉ = c₈ .before .before .before .before .before in
     let a = c₉ .args in
-    beside-it (a .lanes .now) (a .n) (a .fans .now) (a .places .now) (a .m) (a .bounds .now) (a .at) (a .side) (lane-row .result)
-    (lane-row .ensures) (if1 .left) (if2 .left) (is-in-section .result) (is-in-section .ensures)
+    beside-it (a .lanes .now) (a .n) (a .fans .now) (a .places .now) (a .m) (a .bounds .now) (a .at) (a .side) (find-lane .result)
+    (find-lane .ensures) (if1 .left) (if2 .left) (is-in-section .result) (is-in-section .ensures)
     (not-false (is-in-section .result) (if3 .left)) (is-toward-larger .result) (is-toward-larger .ensures) (next-row .result)
     (next-row .ensures) (if4 .left)
 
@@ -231,7 +231,7 @@ pub beside-spec : {M : Type 1} → statement M
 beside-spec =
     tie.close
     (tie.spec
-    lane-row-requires
+    find-lane-requires
     refused-requires
     returns
     mul-p

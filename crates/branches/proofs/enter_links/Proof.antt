@@ -40,7 +40,10 @@ loop-holds c =
     )
 
 add-next : tie.Need-add-next Inv-loop μ-loop
-add-next c = omega arith
+add-next c =
+    let c₁ = c .before .before .before .before .before .before .before .before .before .before in
+    let pre = c₁ .pre in
+    omega (arith, pre .2, pre .3)
 
 sub-next : tie.Need-sub-next Inv-loop μ-loop
 sub-next c = omega (arith, c .before .before .before .before .before .before .before .before .before .before .pre .3)

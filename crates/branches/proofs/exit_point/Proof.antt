@@ -4,7 +4,7 @@ use Rattle.branches.proofs.exit_point.Statement.{statement}
 use Rattle.branches.proofs.exit_point.Tie as tie
 use mathlib.Core.Path.{ap, _∙_}
 use Rattle.geometry.specs.Locate.{pointAlong}
-use Rattle.branches.specs.Tables.{pointsOf, arcsOf}
+use Rattle.rows.specs.Rows.{pointsOf, arcsOf}
 
 mul-first : tie.Need-mul-first
 mul-first c = search needs

@@ -6,7 +6,8 @@ use lib.ListN.{length}
 use Rattle.geometry.specs.Polyline.{cumulativeOf}
 use Rattle.geometry.specs.PolylineLaws.{length-cumulative}
 use Rattle.geometry.specs.Over.{over, length-placed}
-use Rattle.geometry_rows.specs.Rows.{firstAt, countAt, lanePoints, cumulativeRows}
+use Rattle.rows.specs.Rows.{firstPoint, pointCount, pointsOf}
+use Rattle.geometry_rows.specs.Rows.{cumulativeRows}
 use Rattle.geometry_rows.specs.RowsLaws.{lane-room, cumulative-rows-next}
 use Rattle.geometry_rows.proofs.build_cumulative.Statement.{statement}
 use Rattle.geometry_rows.proofs.build_cumulative.Tie as tie
@@ -73,11 +74,11 @@ loop-again c =
     let l = at-loop .loop in
     let r = at-start .pre in
     let lanes = a .lanes .now in
-    let lane = cumulativeOf (lanePoints lanes (a .points .now) (l .i)) (countAt lanes (l .i)) in
+    let lane = cumulativeOf (pointsOf lanes (a .points .now) (l .i)) (pointCount lanes (l .i)) in
     let room = lane-room lanes (a .n) (a .points .now) (r .0) (l .i) (at-loop-test .loop-test .taken) in
-    let long = length-cumulative (lanePoints lanes (a .points .now) (l .i)) (countAt lanes (l .i)) in (
+    let long = length-cumulative (pointsOf lanes (a .points .now) (l .i)) (pointCount lanes (l .i)) in (
       omega (arith, at-loop-test .loop-test .taken),
-      ap length (at-write-lane-cumulative .write-lane-cumulative .ensures) ∙ length-placed (firstAt lanes (l .i)) lane
+      ap length (at-write-lane-cumulative .write-lane-cumulative .ensures) ∙ length-placed (firstPoint lanes (l .i)) lane
           (l .cumulative) (omega (arith, r .1, l .inv .1)) ∙ l .inv .1,
       at-write-lane-cumulative .write-lane-cumulative .ensures ∙ cumulative-rows-next lanes (a .n) (a .points .now) (r .0) (l .i)
           (at-loop-test .loop-test .taken) (a .cumulative .now) (l .cumulative) (l .inv .2),

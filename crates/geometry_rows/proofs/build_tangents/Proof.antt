@@ -7,7 +7,8 @@ use Rattle.geometry.specs.declared.Ends.{Ends}
 use Rattle.geometry.specs.Polyline.{tangentsOf}
 use Rattle.geometry.specs.PolylineLaws.{length-tangents}
 use Rattle.geometry.specs.Over.{over, placed, length-placed}
-use Rattle.geometry_rows.specs.Rows.{firstAt, countAt, lanePoints, laneEnds, tangentRows}
+use Rattle.rows.specs.Rows.{firstPoint, pointCount, pointsOf}
+use Rattle.geometry_rows.specs.Rows.{laneEnds, tangentRows}
 use Rattle.geometry_rows.specs.RowsLaws.{lane-room, tangent-rows-next}
 use Rattle.geometry_rows.proofs.build_tangents.Statement.{statement}
 use Rattle.geometry_rows.proofs.build_tangents.Tie as tie
@@ -81,15 +82,15 @@ loop-again c =
     let l = at-loop .loop in
     let r = at-start .pre in
     let lanes = a .lanes .now in
-    let points = lanePoints lanes (a .points .now) (l .i) in
-    let lane = tangentsOf points (countAt lanes (l .i)) (laneEnds lanes (a .ends .now) (l .i)) in
+    let points = pointsOf lanes (a .points .now) (l .i) in
+    let lane = tangentsOf points (pointCount lanes (l .i)) (laneEnds lanes (a .ends .now) (l .i)) in
     let room = lane-room lanes (a .n) (a .points .now) (r .0) (l .i) (at-loop-test .loop-test .taken) in
-    let long = length-tangents points (countAt lanes (l .i)) (laneEnds lanes (a .ends .now) (l .i)) (countAt lanes (l .i)) in
+    let long = length-tangents points (pointCount lanes (l .i)) (laneEnds lanes (a .ends .now) (l .i)) (pointCount lanes (l .i)) in
     let written = at-write-lane-tangents .write-lane-tangents .ensures
-    ∙ ap (λ (e : Ends). placed (3 * firstAt lanes (l .i)) (tangentsOf points (countAt lanes (l .i)) e) (l .tangents))
+    ∙ ap (λ (e : Ends). placed (3 * firstPoint lanes (l .i)) (tangentsOf points (pointCount lanes (l .i)) e) (l .tangents))
     (at-lane-ends .lane-ends .ensures) in (
       omega (arith, at-loop-test .loop-test .taken),
-      ap length written ∙ length-placed (3 * firstAt lanes (l .i)) lane (l .tangents) (omega (arith, r .1 .room, l .inv .1)) ∙ l .inv .1,
+      ap length written ∙ length-placed (3 * firstPoint lanes (l .i)) lane (l .tangents) (omega (arith, r .1 .room, l .inv .1)) ∙ l .inv .1,
       written ∙ tangent-rows-next lanes (a .n) (a .points .now) (r .0) (l .i) (at-loop-test .loop-test .taken) (a .tangents .now)
           (l .tangents) (a .ends .now) (l .inv .2),
     )

@@ -8,7 +8,6 @@ use borrow.Author.Needs.{needs}
 use borrow.Author.Tests.{le-leb, lt-leb}
 use Rattle.fields.specs.Fields.{u16At}
 use Rattle.plan_format.specs.Plan.{laneRange}
-use Rattle.plan_scan.specs.Limits.{more}
 use Rattle.plan_scan.proofs.lane_in_range.Statement.{statement}
 use Rattle.plan_scan.proofs.lane_in_range.Tie as tie
 

@@ -5,7 +5,8 @@ use mathlib.Core.Path.{ap, _∙_, _≡_}
 use native.Mathlib.Omega.{arith}
 use lib.Ieee.{inf, lt, nan}
 use lib.ListN.{getD, length-set}
-use Rattle.search.specs.Loops.{getD-any, set-below}
+use Rattle.plan_format.specs.Laws.{getD-any}
+use Rattle.search.specs.Loops.{set-below}
 use Rattle.search.specs.Search.{relaxed}
 use Rattle.search.proofs.relax.Statement.{statement}
 use Rattle.search.proofs.relax.Tie as tie

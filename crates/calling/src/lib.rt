@@ -1,0 +1,1 @@
+// What the public calls have in common. Laws only: specs/ has them.

@@ -1,0 +1,2 @@
+-- What the public route call promises.
+pub mod Promise

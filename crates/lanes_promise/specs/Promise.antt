@@ -1,0 +1,61 @@
+-- Demand 3 of the public call `route`: what it answers for an accepted file, and leaves in its lists, is what `RoutePromise` (crate route_promise)
+-- promises.
+use mathlib.Core.Bool.{false}
+use mathlib.Core.List.{List}
+use mathlib.Core.Path.{ap, refl, _∙_, _≡_}
+use Prim.Native.Nat.{ℕ}
+use lib.Ieee.{Float}
+use lib.ListN.{length, take}
+use Rattle.coords.specs.declared.Point.{Point}
+use Rattle.geometry_laws.specs.Range.{PointIn}
+use Rattle.lanes_route.specs.Route.{RouteLists, listsOf, routeOf}
+use Rattle.nearest.specs.Nearest.{nearestIn}
+use Rattle.plan_format.specs.Filling.{over-front}
+use Rattle.plan_format.specs.Laws.{Bytes}
+use Rattle.plan_format.specs.Plan.{Decoded, Plan, accepted, decode}
+use Rattle.plan_format.specs.Reading.{opened}
+use Rattle.route.specs.Route.{Routed, answerOf, routeIn}
+use Rattle.route.specs.declared.RouteAnswer.{RouteAnswer}
+use Rattle.route_promise.proofs.Theorem.{route-promise}
+use Rattle.route_promise.specs.Promise.{Promised, wholeRoute}
+use Rattle.tables.specs.LaneTables.{Calls, LaneTables, tooShort}
+
+-- a call that answers r and leaves chain′ and stops′ in its lists shows the route R: its number, counts and length, its lanes and its points
+pub record Shows (R : Routed) (r : RouteAnswer) (chain′ : List ℕ) (stops′ : List Float) : Type 0 where
+  pub answer : r ≡ answerOf R
+  pub lanes : take (length (R .chain)) chain′ ≡ R .chain
+  pub points : take (length (R .points)) stops′ ≡ R .points
+
+-- the route that a call shows, with what is promised of it
+pub record Kept (p : Plan) (from to : Point) (chain : List ℕ) (stops : List Float) (r : RouteAnswer) (chain′ : List ℕ) (stops′ : List Float)
+    : Type 0 where
+  pub shown : Routed
+  pub shows : Shows shown r chain′ stops′
+  pub promised : Promised p from to (length chain) (length stops) (nearestIn p from) (nearestIn p to) (wholeRoute p from to) shown
+
+-- for every file and all tables that are long enough: what the contract of `route` says of a call (`Calls`) gives the promise
+module _ (file : List ℕ) (B : Bytes file) (t t′ : LaneTables) (long : tooShort t ≡ false) (p : Plan) (is : decode 0 file ≡ accepted p)
+    (from to : Point) (F : PointIn from) (T : PointIn to) (chain chain′ : List ℕ) (stops stops′ : List Float) (r : RouteAnswer)
+    (C : Calls (opened (tooShort t) 0 file) (routeOf (opened (tooShort t) 0 file) from to chain stops) (listsOf r chain′ stops′) t t′)
+  where
+    opens : opened (tooShort t) 0 file ≡ accepted p
+    unfolding opened
+    opens = rw long is
+
+    lists : listsOf r chain′ stops′ ≡ routeOf (accepted p) from to chain stops
+    lists = C .answer-is ∙ ap (λ (d : Decoded). routeOf d from to chain stops) opens
+
+    abbrev route : Routed
+    route = routeIn p from to (length chain) (length stops)
+
+    pub route-kept : Kept p from to chain stops r chain′ stops′
+    route-kept =
+        record {
+          shown = route;
+          shows = record {
+            answer = ap (λ (x : RouteLists). x .answer) lists;
+            lanes = ap (λ (x : RouteLists). take (length (route .chain)) (x .chain)) lists ∙ over-front (route .chain) chain _ refl;
+            points = ap (λ (x : RouteLists). take (length (route .points)) (x .stops)) lists ∙ over-front (route .points) stops _ refl;
+          };
+          promised = route-promise file B p is from to F T (length chain) (length stops);
+        }

@@ -1,0 +1,2 @@
+-- Lists that are written in part.
+pub mod Over

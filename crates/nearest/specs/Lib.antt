@@ -1,0 +1,3 @@
+-- What the nearest lane of a plan is.
+pub mod Nearest
+pub mod Examples

@@ -1,0 +1,2 @@
+-- What C takes in place of an enum.
+pub mod Hit

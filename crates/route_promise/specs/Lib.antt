@@ -1,0 +1,2 @@
+-- What is promised of the route query.
+pub mod Promise

@@ -1,0 +1,1 @@
+// Definitions and laws only: specs/ states demand 3, proofs/ proves it.

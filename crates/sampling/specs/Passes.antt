@@ -1,0 +1,382 @@
+-- What a pass over a path's samples gives that stops once more than `room` points are kept, and laws of its loops.
+use mathlib.Core.Bool.{Bool, cond, false, true, _||_}
+use mathlib.Core.List.{List, [], _++_, _∷_}
+use mathlib.Core.Logic.{inl, inr, ⊎-elim, _⊎_}
+use mathlib.Core.Path.{ap, ap₂, refl, subst, sym, _∙_, _≡_}
+use native.Mathlib.Nat.{not-suc-le-zero}
+use Prim.Native.Nat.{suc, zero, ℕ, _*_, _+_, _-_, _/_, _<_, _≤_}
+use native.Mathlib.Numerals.{add-one}
+use native.Mathlib.Omega.{arith}
+use borrow.Author.Tests.{eq-eqb, lt-ltb, ne-eqb}
+use lib.Dec.{eqb, ltb}
+use lib.Ieee.{Float, binary32, lt, sub}
+use lib.ListN.{drop, drop-of-length-le, getD, length, length-append, length-set}
+use lib.Seq.{drop-cons}
+use Rattle.coords.specs.Coords.{distanceSquaredTo}
+use Rattle.coords.specs.declared.Point.{Point}
+use Rattle.float.specs.Sign.{absOf}
+use Rattle.geometry.specs.Locate.{micro, pointAlong}
+use Rattle.geometry.specs.Over.{over, over-three}
+use Rattle.rows.specs.Rows.{firstNeighbour, leadsTo, neighbours}
+use Rattle.sampling.specs.Kept.{flat, isFresh, keptOf, laid, lastOf, pushed, pushing, putAt, putting, withPoint}
+use Rattle.sampling.specs.Sampling.{RouteTables, entryAfter, entryFirst, exitAt, exitFor, leads, placeIn}
+use Rattle.sampling.specs.Sampling.{sampleAt, sampleFrom, sampleLanes, sampleRoute, sampleSegment, sampleSpan}
+use Rattle.sampling.specs.Sampling.{stepsOf, tiny}
+use Rattle.sampling.specs.declared.Kept.{Kept}
+
+-- ---- what the tables must hold
+
+-- the links of lane i
+pub record Linking (fans links : List ℕ) (i : ℕ) : Type 0 where
+  pub fan : 5 * i + 4 < length fans
+  pub rows : 2 * (firstNeighbour fans i + neighbours fans i) ≤ length links
+
+abbrev pub AllLinked : List ℕ → ℕ → List ℕ → Type 0
+AllLinked fans n links = (i : ℕ) → i < n → Linking fans links i
+
+-- a path of one or more of n lanes, as long as the search gives one at most
+pub record PathRows (path : List ℕ) (n : ℕ) : Type 0 where
+  pub some : 0 < length path
+  pub few : length path ≤ 257
+  pub each : (k : ℕ) → k < length path → getD path k 0 < n
+
+-- ---- what a pass gives: all the points, or more than there is room for
+
+pub record Sampled (room : ℕ) (all : List Point) (old : List Float) (r : Kept) (out : List Float) : Type 0 where
+  pub points : List Point
+  pub kept : r ≡ keptOf points
+  pub written : out ≡ laid points old
+  pub reached : (points ≡ all) ⊎ ((room < length points) × (length points ≤ length all))
+
+-- after points that are kept and written
+abbrev pub SegmentSampled : List Float → List Float → Float → Float → ℕ → Kept → List Float → Kept → List Float → Type 0
+SegmentSampled ps cs entry exit room kept out r out′ =
+    (qs : List Point) (old : List Float) → kept ≡ keptOf qs → out ≡ laid qs old
+    → Sampled room (sampleSegment (pointAlong ps cs) entry exit qs) old r out′
+
+pub sampled-as : (room : ℕ) (all all′ : List Point) (old : List Float) (r : Kept) (out : List Float) → all ≡ all′
+    → Sampled room all old r out → Sampled room all′ old r out
+sampled-as room all all′ old r out e S = subst (λ (a : List Point). Sampled room a old r out) e S
+
+-- ---- `push_dedup`
+
+length-put : (out : List Float) (i : ℕ) (p : Point) → length (putAt out i p) ≡ length out
+length-put out i p = go (ltb i (length out / 3))
+  where
+    go : (b : Bool) → length (cond b (withPoint out i p) out) ≡ length out
+    go true = simp length-set
+    go false = refl
+
+pub length-laid : (ps : List Point) (out : List Float) → length (laid ps out) ≡ length out
+unfolding laid
+length-laid [] out = refl
+length-laid (p ∷ ps) out = length-put (laid ps out) (length ps) p ∙ length-laid ps out
+
+fresh-after : (q : Point) (qs : List Point) (p : Point) → isFresh (keptOf (q ∷ qs)) p ≡ lt micro (distanceSquaredTo q p)
+unfolding isFresh
+fresh-after q qs p = ap (λ (b : Bool). cond b (lt micro (distanceSquaredTo q p)) true) (lt-ltb 0 (length (q ∷ qs)) (omega arith))
+
+fresh-first : (p : Point) → isFresh (keptOf []) p ≡ true
+unfolding isFresh
+fresh-first p = refl
+
+pub length-putting : (k : Kept) (p : Point) (out : List Float) → length (putting k p out) ≡ length out
+length-putting k p out = go (isFresh k p)
+  where
+    go : (b : Bool) → length (cond b (putAt out (k .count) p) out) ≡ length out
+    go true = length-put out (k .count) p
+    go false = refl
+
+pub length-flat : (ps : List Point) → length (flat ps) ≡ 3 * length ps
+unfolding flat
+length-flat [] = refl
+length-flat (p ∷ ps) = simp length-append (omega (arith, length-flat ps))
+
+-- points that fit stand at the front, and the list goes on as before
+pub laid-flat : (ps : List Point) (out : List Float) → 3 * length ps ≤ length out → laid ps out ≡ over (flat ps) out
+unfolding laid flat
+laid-flat [] out h = refl
+laid-flat (p ∷ ps) out h =
+    let n = length-laid ps out in
+    let fits : ltb (length ps) (length (laid ps out) / 3) ≡ true = lt-ltb (length ps) (length (laid ps out) / 3) (omega arith) in
+    ap (λ (b : Bool). cond b (withPoint (laid ps out) (length ps) p) (laid ps out)) fits
+    ∙ ap (λ (o : List Float). withPoint o (length ps) p) (laid-flat ps out (omega arith))
+    ∙ over-three (flat ps) out (3 * length ps) (p .x) (p .y) (p .z) (length-flat ps) (omega arith)
+
+pub pushed-kept : (qs : List Point) (p : Point) → pushing (keptOf qs) p ≡ keptOf (pushed qs p)
+unfolding pushed
+pushed-kept [] p = ap (λ (b : Bool). cond b (record { count = 1; last = p }) (keptOf [])) (fresh-first p)
+pushed-kept (q ∷ qs) p =
+    ap (λ (b : Bool). cond b (record { count = length (q ∷ qs) + 1; last = p }) (keptOf (q ∷ qs))) (fresh-after q qs p)
+    ∙ go (lt micro (distanceSquaredTo q p))
+  where
+    go : (b : Bool) → cond b (record { count = length (q ∷ qs) + 1; last = p }) (keptOf (q ∷ qs)) ≡ keptOf (cond b (p ∷ q ∷ qs) (q ∷ qs))
+    go true = ap (λ (n : ℕ). record { count = n; last = p }) (add-one (length (q ∷ qs)))
+    go false = refl
+
+pub pushed-laid : (qs : List Point) (p : Point) (old : List Float) → putting (keptOf qs) p (laid qs old) ≡ laid (pushed qs p) old
+unfolding pushed laid
+pushed-laid [] p old = ap (λ (b : Bool). cond b (putAt old 0 p) old) (fresh-first p)
+pushed-laid (q ∷ qs) p old =
+    ap (λ (b : Bool). cond b (putAt (laid (q ∷ qs) old) (length (q ∷ qs)) p) (laid (q ∷ qs) old)) (fresh-after q qs p)
+    ∙ go (lt micro (distanceSquaredTo q p))
+  where
+    go : (b : Bool) → cond b (putAt (laid (q ∷ qs) old) (length (q ∷ qs)) p) (laid (q ∷ qs) old) ≡ laid (cond b (p ∷ q ∷ qs) (q ∷ qs)) old
+    go true = refl
+    go false = refl
+
+-- ---- `sample_segment`
+
+-- no point is lost
+pub pushed-long : (qs : List Point) (p : Point) → length qs ≤ length (pushed qs p)
+unfolding pushed
+pushed-long [] p = omega arith
+pushed-long (q ∷ qs) p = go (lt micro (distanceSquaredTo q p))
+  where
+    go : (b : Bool) → length (q ∷ qs) ≤ length (cond b (p ∷ q ∷ qs) (q ∷ qs))
+    go true = omega arith
+    go false = omega arith
+
+module _ (place : Float → Point) (entry span : Float) (steps : ℕ) where
+  pub from-long : (n k : ℕ) (qs : List Point) → length qs ≤ length (sampleFrom place entry span steps n k qs)
+  unfolding sampleFrom
+  from-long zero k qs = omega arith
+  from-long (suc n) k qs =
+      let a = pushed-long qs (place (sampleAt entry span steps k)) in
+      let b = from-long n (k + 1) (pushed qs (place (sampleAt entry span steps k))) in
+      omega arith
+
+  pub from-last : (k : ℕ) (qs : List Point) → sampleFrom place entry span steps 1 k qs ≡ pushed qs (place (sampleAt entry span steps k))
+  unfolding sampleFrom
+  from-last k qs = refl
+
+  pub from-next : (n k : ℕ) (qs : List Point)
+      → sampleFrom place entry span steps (suc n) k qs ≡ sampleFrom place entry span steps n (k + 1) (pushed qs (place (sampleAt entry span steps k)))
+  unfolding sampleFrom
+  from-next n k qs = refl
+
+-- where the loop stands before sample k: the points so far, of which the samples left make all
+pub record Sampling (place : Float → Point) (entry span : Float) (steps k : ℕ) (all : List Point) (old : List Float) (r : Kept)
+    (out : List Float) : Type 0 where
+  pub points : List Point
+  pub kept : r ≡ keptOf points
+  pub written : out ≡ laid points old
+  pub rest : sampleFrom place entry span steps (suc (steps - k)) k points ≡ all
+
+module _ (place : Float → Point) (entry span : Float) (steps k : ℕ) (all : List Point) (old : List Float) (r : Kept) (out : List Float)
+    (r′ : Kept) (out′ : List Float) (S : Sampling place entry span steps k all old r out)
+    (e : r′ ≡ pushing r (place (sampleAt entry span steps k))) (f : out′ ≡ putting r (place (sampleAt entry span steps k)) out) where
+  p : Point
+  p = place (sampleAt entry span steps k)
+
+  kept-next : r′ ≡ keptOf (pushed (S .points) p)
+  unfolding p
+  kept-next = e ∙ ap (λ (q : Kept). pushing q p) (S .kept) ∙ pushed-kept (S .points) p
+
+  written-next : out′ ≡ laid (pushed (S .points) p) old
+  unfolding p
+  written-next =
+      f ∙ ap₂ (λ (q : Kept) (o : List Float). putting q p o) (S .kept) (S .written) ∙ pushed-laid (S .points) p old
+
+  -- one more sample
+  pub sampling-next : k < steps → Sampling place entry span steps (k + 1) all old r′ out′
+  unfolding p
+  sampling-next h =
+      let n : steps - k ≡ suc (steps - (k + 1)) = omega arith in
+      record {
+        points = pushed (S .points) p;
+        kept = kept-next;
+        written = written-next;
+        rest = rw n at (sym (from-next place entry span steps (steps - k) k (S .points)) ∙ S .rest);
+      }
+
+  -- more than there is room for
+  pub sampling-stops : (room : ℕ) → room < r′ .count → Sampled room all old r′ out′
+  unfolding p
+  sampling-stops room h =
+      let n = ap (λ (q : Kept). q .count) kept-next in
+      let l = from-long place entry span steps (steps - k) (k + 1) (pushed (S .points) p) in
+      let same = sym (from-next place entry span steps (steps - k) k (S .points)) ∙ S .rest in
+      let m = rw same at l in
+      record { points = pushed (S .points) p; kept = kept-next; written = written-next; reached = inr (omega arith, m) }
+
+-- the last sample
+pub sampling-ends : (place : Float → Point) (entry span : Float) (steps k : ℕ) (all : List Point) (old : List Float) (r : Kept)
+    (out : List Float) (r′ : Kept) (out′ : List Float) → Sampling place entry span steps k all old r out → k ≡ steps
+    → r′ ≡ pushing r (place (sampleAt entry span steps steps)) → out′ ≡ putting r (place (sampleAt entry span steps steps)) out
+    → (room : ℕ) → Sampled room all old r′ out′
+sampling-ends place entry span steps k all old r out r′ out′ S h e f room =
+    let p = place (sampleAt entry span steps steps) in
+    let n : suc (steps - k) ≡ 1 = omega arith in
+    let same : sampleFrom place entry span steps 1 steps (S .points) ≡ all
+    = ap₂ (λ (m j : ℕ). sampleFrom place entry span steps m j (S .points)) (sym n) (sym h) ∙ S .rest in
+    record {
+      points = pushed (S .points) p;
+      kept = e ∙ ap (λ (q : Kept). pushing q p) (S .kept) ∙ pushed-kept (S .points) p;
+      written = f ∙ ap₂ (λ (q : Kept) (o : List Float). putting q p o) (S .kept) (S .written) ∙ pushed-laid (S .points) p old;
+      reached = inl (sym (from-last place entry span steps steps (S .points)) ∙ same);
+    }
+
+-- before the first sample
+pub sampling-starts : (place : Float → Point) (entry span : Float) (steps : ℕ) (qs : List Point) (old : List Float) (r : Kept)
+    (out : List Float) → r ≡ keptOf qs → out ≡ laid qs old
+    → Sampling place entry span steps 0 (sampleFrom place entry span steps (steps + 1) 0 qs) old r out
+sampling-starts place entry span steps qs old r out e f =
+    let n : suc (steps - 0) ≡ steps + 1 = omega arith in
+    record { points = qs; kept = e; written = f; rest = ap (λ (m : ℕ). sampleFrom place entry span steps m 0 qs) n }
+
+-- what the test of the span decides; a is its size
+module _ (place : Float → Point) (entry exit a : Float) (e : a ≡ absOf (sub binary32 exit entry)) (qs : List Point) where
+  pub segment-samples : (steps : ℕ) → lt a tiny ≡ false → steps ≡ stepsOf (sub binary32 exit entry)
+      → sampleFrom place entry (sub binary32 exit entry) steps (steps + 1) 0 qs ≡ sampleSegment place entry exit qs
+  unfolding sampleSpan
+  segment-samples steps t f =
+      ap (λ (n : ℕ). sampleFrom place entry (sub binary32 exit entry) n (n + 1) 0 qs) f
+      ∙ ap (λ (b : Bool). sampleSpan b place entry (sub binary32 exit entry) qs) (sym t ∙ ap (λ (x : Float). lt x tiny) e)
+
+  -- a point alone
+  pub segment-point : (room : ℕ) (p : Point) (old : List Float) (kept r : Kept) (out out′ : List Float) → lt a tiny ≡ true → p ≡ place entry
+      → kept ≡ keptOf qs → out ≡ laid qs old → r ≡ pushing kept p → out′ ≡ putting kept p out
+      → Sampled room (sampleSegment place entry exit qs) old r out′
+  unfolding sampleSpan
+  segment-point room p old kept r out out′ t g k w f h =
+      record {
+        points = pushed qs p;
+        kept = f ∙ ap (λ (q : Kept). pushing q p) k ∙ pushed-kept qs p;
+        written = h ∙ ap₂ (λ (q : Kept) (o : List Float). putting q p o) k w ∙ pushed-laid qs p old;
+        reached = inl
+            (ap (pushed qs) g ∙ ap (λ (b : Bool). sampleSpan b place entry (sub binary32 exit entry) qs) (sym t ∙ ap (λ (x : Float). lt x tiny) e));
+      }
+
+-- ---- `leads`
+
+module _ (links : List ℕ) (lane : ℕ) where
+  -- what the links from row `at` on say is what all of them say
+  pub record Leading (first end at : ℕ) : Type 0 where
+    pub past : at ≤ end
+    pub rest : leads links at (end - at) lane ≡ leads links first (end - first) lane
+
+  module _ (first end at : ℕ) (L : Leading first end at) (h : at < end) where
+    step : leads links at (end - at) lane ≡ (eqb (leadsTo links at) lane || leads links (at + 1) (end - (at + 1)) lane)
+    unfolding leads
+    step = let n : end - at ≡ suc (end - (at + 1)) = omega arith in ap (λ (m : ℕ). leads links at m lane) n
+
+    pub leading-found : leadsTo links at ≡ lane → true ≡ leads links first (end - first) lane
+    leading-found e =
+        ap (λ (b : Bool). b || leads links (at + 1) (end - (at + 1)) lane) (sym (eq-eqb (leadsTo links at) lane e)) ∙ sym step ∙ L .rest
+
+    pub leading-next : (leadsTo links at ≡ lane → ⊥) → Leading first end (at + 1)
+    leading-next e = record {
+      past = omega arith;
+      rest = ap (λ (b : Bool). b || leads links (at + 1) (end - (at + 1)) lane) (sym (ne-eqb (leadsTo links at) lane e)) ∙ sym step ∙ L .rest;
+    }
+
+  pub leading-ends : (first end at : ℕ) → Leading first end at → end ≤ at → false ≡ leads links first (end - first) lane
+  unfolding leads
+  leading-ends first end at L h = let n : 0 ≡ end - at = omega arith in ap (λ (m : ℕ). leads links at m lane) n ∙ L .rest
+
+-- ---- `sample_route`
+
+segment-long : (place : Float → Point) (entry exit : Float) (qs : List Point) → length qs ≤ length (sampleSegment place entry exit qs)
+unfolding sampleSpan
+segment-long place entry exit qs = go (lt (absOf span) tiny)
+  where
+    span : Float
+    span = sub binary32 exit entry
+
+    go : (b : Bool) → length qs ≤ length (sampleSpan b place entry span qs)
+    go true = pushed-long qs (place entry)
+    go false = from-long place entry span (stepsOf span) (stepsOf span + 1) 0 qs
+
+module _ (T : RouteTables) (goal : Float) where
+  lanes-long : (rest : List ℕ) (i : ℕ) (entry : Float) (qs : List Point) → length qs ≤ length (sampleLanes T goal i entry rest qs)
+  unfolding sampleLanes
+  lanes-long [] i entry qs = segment-long (placeIn T i) entry (exitAt (T .lanes) (T .cumulative) i entry goal) qs
+  lanes-long (next ∷ rest) i entry qs =
+      let exit = exitFor T i next entry in
+      let a = segment-long (placeIn T i) entry exit qs in
+      let b = lanes-long rest next (entryAfter T i exit next) (sampleSegment (placeIn T i) entry exit qs) in
+      omega arith
+
+  -- where the loop stands before lane k of the path, on lane i, which is entered at `entry`: the points so far, of which the lanes left make all
+  pub record Routing (path : List ℕ) (n : ℕ) (all : List Point) (old : List Float) (room k i : ℕ) (entry : Float) (r : Kept)
+      (out : List Float) : Type 0 where
+    pub points : List Point
+    pub kept : r ≡ keptOf points
+    pub written : out ≡ laid points old
+    pub few : r .count ≤ room
+    pub lane : i < n
+    pub rest : sampleLanes T goal i entry (drop k path) points ≡ all
+
+  pub routing-starts : (path : List ℕ) (n : ℕ) (start entry : Float) (old : List Float) (room : ℕ) → PathRows path n
+      → entry ≡ entryFirst T (getD path 0 0) start
+      → Routing path n (sampleRoute T path start goal) old room 1 (getD path 0 0) entry (keptOf []) old
+  unfolding sampleRoute laid
+  routing-starts [] n start entry old room P e = absurd (not-suc-le-zero (P .some))
+  routing-starts (i ∷ rest) n start entry old room P e =
+      record {
+        points = [];
+        kept = refl;
+        written = refl;
+        few = omega arith;
+        lane = P .each 0 (P .some);
+        rest = ap (λ (s : Float). sampleLanes T goal i s rest []) e;
+      }
+
+  module _ (path : List ℕ) (n : ℕ) (all : List Point) (old : List Float) (room k i : ℕ) (entry : Float) (r : Kept) (out : List Float)
+      (R : Routing path n all old room k i entry r out) (exit : Float) (r′ : Kept) (out′ : List Float)
+      (S : Sampled room (sampleSegment (placeIn T i) entry exit (R .points)) old r′ out′) where
+    -- over to the lane `next`
+    module _ (next : ℕ) (h : k < length path) (e : next ≡ getD path k 0) (f : exit ≡ exitFor T i next entry) where
+      onward : sampleLanes T goal next (entryAfter T i exit next) (drop (k + 1) path) (sampleSegment (placeIn T i) entry exit (R .points)) ≡ all
+      unfolding sampleLanes
+      onward =
+          let Q : Float → List ℕ → List Point = λ (x : Float) (rest : List ℕ).
+          sampleLanes T goal next (entryAfter T i x next) rest (sampleSegment (placeIn T i) entry x (R .points)) in
+          let split : drop k path ≡ next ∷ drop (k + 1) path = drop-cons path k 0 h ∙ ap₂ (λ (x m : ℕ). x ∷ drop m path) (sym e) (sym (add-one k)) in
+          ap (λ (x : Float). Q x (drop (k + 1) path)) f
+          ∙ ap (λ (l : List ℕ). sampleLanes T goal i entry l (R .points)) (sym split)
+          ∙ R .rest
+
+      pub routing-next : PathRows path n → (entry′ : Float) → r′ .count ≤ room → entry′ ≡ entryAfter T i exit next
+          → Routing path n all old room (k + 1) next entry′ r′ out′
+      routing-next P entry′ few g = go (S .reached)
+        where
+          c : r′ .count ≡ length (S .points)
+          c = ap (λ (q : Kept). q .count) (S .kept)
+
+          go : (S .points ≡ sampleSegment (placeIn T i) entry exit (R .points))
+              ⊎ ((room < length (S .points)) × (length (S .points) ≤ length (sampleSegment (placeIn T i) entry exit (R .points))))
+              → Routing path n all old room (k + 1) next entry′ r′ out′
+          go (inl w) =
+              record {
+                points = S .points;
+                kept = S .kept;
+                written = S .written;
+                few = few;
+                lane = subst (λ (x : ℕ). x < n) (sym e) (P .each k h);
+                rest = ap₂ (λ (s : Float) (qs : List Point). sampleLanes T goal next s (drop (k + 1) path) qs) g w ∙ onward;
+              }
+          go (inr w) = absurd (omega (arith, w .0, c, few))
+
+      pub routing-stops : room < r′ .count → Sampled room all old r′ out′
+      routing-stops h =
+          let c : r′ .count ≡ length (S .points) = ap (λ (q : Kept). q .count) (S .kept) in
+          let l = lanes-long (drop (k + 1) path) next (entryAfter T i exit next) (sampleSegment (placeIn T i) entry exit (R .points)) in
+          let m : length (sampleSegment (placeIn T i) entry exit (R .points)) ≤ length all
+          = subst (λ (qs : List Point). length (sampleSegment (placeIn T i) entry exit (R .points)) ≤ length qs) onward l in
+          record {
+            points = S .points;
+            kept = S .kept;
+            written = S .written;
+            reached = inr (omega arith, ⊎-elim (λ w. subst (λ (qs : List Point). length qs ≤ length all) (sym w) m) (λ w. omega arith) (S .reached));
+          }
+
+    -- the last lane
+    pub routing-ends : length path ≤ k → exit ≡ exitAt (T .lanes) (T .cumulative) i entry goal → Sampled room all old r′ out′
+    unfolding sampleLanes
+    routing-ends h f =
+        sampled-as room (sampleSegment (placeIn T i) entry exit (R .points)) all old r′ out′
+        (ap (λ (x : Float). sampleSegment (placeIn T i) entry x (R .points)) f
+        ∙ ap (λ (l : List ℕ). sampleLanes T goal i entry l (R .points)) (sym (drop-of-length-le path h))
+        ∙ R .rest) S
