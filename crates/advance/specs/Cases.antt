@@ -39,7 +39,7 @@ sixteen = f 0x41800000
 
 abbrev line : Tables
 line = record {
-  lanes = 1 ∷ 3 ∷ 0 ∷ 0 ∷ 0 ∷ 2 ∷ 2 ∷ 3 ∷ 0 ∷ 0 ∷ 2 ∷ 2 ∷ [];
+  lanes = 1 ∷ 1 ∷ 0 ∷ 0 ∷ 0 ∷ 2 ∷ 2 ∷ 1 ∷ 0 ∷ 0 ∷ 2 ∷ 2 ∷ [];
   laneCount = 2;
   points = f 0 ∷ f 0 ∷ f 0 ∷ eight ∷ f 0 ∷ f 0 ∷ eight ∷ f 0 ∷ f 0 ∷ sixteen ∷ f 0 ∷ f 0 ∷ [];
   cumulative = f 0 ∷ eight ∷ f 0 ∷ eight ∷ [];

@@ -16,7 +16,7 @@ abbrev line : List Float
 line = ofBits binary32 0 ∷ ofBits binary32 0 ∷ ofBits binary32 0 ∷ ofBits binary32 0x41000000 ∷ ofBits binary32 0 ∷ ofBits binary32 0 ∷ []
 
 abbrev lane : ℕ → ℕ → Lane
-lane number direction = record { number = number; type = 3; direction = direction; ends = 0; count = 2; points = line; tangents = [] }
+lane number direction = record { number = number; type = 1; direction = direction; ends = 0; count = 2; points = line; tangents = [] }
 
 -- the OpenDRIVE number with 2^31 added
 abbrev place : ℕ → ℕ → Place

@@ -16,9 +16,9 @@ use Rattle.nearest.specs.Nearest.{answerOf, lanesOf, nearestIn, refusal}
 use Rattle.nearest.specs.declared.NearestAnswer.{NearestAnswer}
 use Rattle.network.specs.Lanes.{Lane, drives, drivesTable}
 use Rattle.network.specs.Nearest.{nearestLane}
-use Rattle.plan.specs.Accepted.{Accepted}
+use Rattle.plan.specs.Accepted.{Accepted, accepted-plan}
 use Rattle.plan_format.specs.Plan.{Plan}
-use Rattle.nearest_laws.specs.Promise.{NearestNumbers, NearestPromise, NoneDrives, Tells}
+use Rattle.nearest_laws.specs.Promise.{NearestNumbers, NearestOfFile, NearestPromise, NoneDrives, Tells}
 use Rattle.nearest_laws.proofs.Ranges.{lanes-in}
 
 -- ---- every finite point
@@ -64,3 +64,8 @@ pub nearest-promise : NearestPromise
 nearest-promise p q A Q =
     let n = nearest-numbers p q A (is-finite p q A Q) in
     record { ten = n .ten-only; none = n .none-drives; some = some-drives p q A Q }
+
+pub nearest-of-file : NearestOfFile
+nearest-of-file file B p e q =
+    let A = accepted-plan 0 file p B e in
+    ((λ F. nearest-numbers p q A F), (λ Q. nearest-promise p q A Q))

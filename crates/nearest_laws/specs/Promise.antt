@@ -2,7 +2,9 @@
 -- with coordinates from -4,096 to 4,096 the answer drives, and document 01's taped distance holds of it.
 -- Definitions only; proofs/Theorem.antt proves `NearestNumbers` and `NearestPromise`.
 use mathlib.Core.Bool.{false, true}
+use mathlib.Core.List.{List}
 use mathlib.Core.Path.{_≡_}
+use Prim.Native.Nat.{ℕ}
 use Rattle.accuracy.specs.Taped.{Answered, In, SomeDrives}
 use Rattle.coords.specs.Coords.{finitePoint}
 use Rattle.coords.specs.declared.Point.{Point}
@@ -11,7 +13,8 @@ use Rattle.nearest.specs.Nearest.{lanesOf, nearestIn, refusal}
 use Rattle.nearest.specs.declared.NearestAnswer.{NearestAnswer}
 use Rattle.network.specs.Lanes.{Lane, drives, drivesTable}
 use Rattle.plan.specs.Accepted.{Accepted}
-use Rattle.plan_format.specs.Plan.{Plan}
+use Rattle.plan_format.specs.Laws.{Bytes}
+use Rattle.plan_format.specs.Plan.{Plan, accepted, decode}
 use Rattle.plan_format.specs.Records.{laneId}
 
 -- no lane of the plan drives
@@ -42,3 +45,9 @@ pub record Promise (p : Plan) (q : Point) : Type 0 where
 
 abbrev pub NearestPromise : Type 0
 NearestPromise = (p : Plan) (q : Point) → Accepted p → PointIn q → Promise p q
+
+-- both, of an accepted file
+abbrev pub NearestOfFile : Type 0
+NearestOfFile =
+    (file : List ℕ) → Bytes file → (p : Plan) → decode 0 file ≡ accepted p → (q : Point)
+    → (finitePoint q ≡ true → Numbers p q) × (PointIn q → Promise p q)

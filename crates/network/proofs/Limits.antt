@@ -1,4 +1,4 @@
--- A plan within its limits has at most MAX_SPANS spans: 1152, for 256 lanes of two points or more and 4,096 points in all.
+-- A plan within its limits has at most 1,152 spans: 256 lanes of two points or more, and 4,096 points in all.
 use mathlib.Core.Path.{_≡_, refl, ap, _∙_}
 use mathlib.Core.Bool.{Bool, true, false, cond}
 use mathlib.Core.List.{List, [], _∷_, _++_}

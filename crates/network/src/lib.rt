@@ -25,9 +25,6 @@ ghost use Rattle.network.specs.Nearest.{offered, offeredIn, visitCell, v
 // Segments of a lane's centerline per indexed span.
 const SPAN_SEGMENTS: usize = 4;
 
-// The most spans that a plan within its limits has: 256 lanes with 4,096 points in all, two of them or more each.
-pub const MAX_SPANS: usize = 1152;
-
 // Which lane types drive: Driving alone.
 pub const DRIVES: [bool; 28] = [
     false,
