@@ -1,5 +1,4 @@
 -- The positions moved on from the tables after opening are the plan's.
-use mathlib.Core.Bool.{Bool}
 use mathlib.Core.List.{List}
 use mathlib.Core.Path.{ap, refl, _∙_, _≡_}
 use Prim.Native.Nat.{ℕ, _*_, _≤_}
@@ -19,7 +18,7 @@ use Rattle.advance.specs.declared.Advanced.{Advanced}
 use Rattle.advance.specs.Advance.{Answer, advanceRows}
 use Rattle.advance.specs.InPlan.{advanceIn, advanceOf}
 use Rattle.advance.specs.InPlanLaws.{bounded, tabled}
-use Rattle.tables.specs.LaneTables.{Calls, LaneTables, Opens, laneRows}
+use Rattle.tables.specs.LaneTables.{Calls, LaneTables, Opens, laneRows, tooShort}
 use Rattle.tables.specs.Opening.{bounds-now, cumulative-now, fans-now, found, lanes-now, links-now, places-now, points-now}
 use Rattle.tables.specs.Opening.{sections-now, stations-now}
 use Rattle.calling.specs.Calling.{calls-accepted}
@@ -70,31 +69,31 @@ module _ (p : Plan) (A : Accepted p) (n m : ℕ) (ls : List ℕ) (xs cs : List F
   advance-of from distance rows metres = rw (l, x, c, f, k, s, b, u, q, few, many)
 
 -- the tables of an accepted file
-module _ (b : Bool) (side : ℕ) (f : List ℕ) (B : Bytes f) (r : Read) (t t′ : LaneTables) (O : Opens (opened b side f) r t t′)
+module _ (side : ℕ) (f : List ℕ) (B : Bytes f) (r : Read) (t t′ : LaneTables) (O : Opens (opened (tooShort t) side f) r t t′)
     (z : r .number ≡ 0) where
   abbrev c : Counts
   c = r .counts
 
-  few : c .lanes ≡ length (found b side f B r t t′ O z .plan .lanes)
-  few = ap (λ (x : Counts). x .lanes) (found b side f B r t t′ O z .counts)
+  few : c .lanes ≡ length (found side f B r t t′ O z .plan .lanes)
+  few = ap (λ (x : Counts). x .lanes) (found side f B r t t′ O z .counts)
 
-  many : c .places ≡ length (found b side f B r t t′ O z .plan .places)
-  many = ap (λ (x : Counts). x .places) (found b side f B r t t′ O z .counts)
+  many : c .places ≡ length (found side f B r t t′ O z .plan .places)
+  many = ap (λ (x : Counts). x .places) (found side f B r t t′ O z .counts)
 
   pub advance-fronts : AdvanceFronts c (t′ .plan .lanes) (t′ .plan .points) (t′ .cumulative) (t′ .plan .fans) (t′ .plan .links)
       (t′ .plan .sections) (t′ .plan .bounds) (t′ .plan .stations) (t′ .plan .places)
   advance-fronts =
-      let p = found b side f B r t t′ O z .plan in
-      let ok = found b side f B r t t′ O z .ok in
-      let L = lanes-now b side f B r t t′ O z c refl in
-      let X = points-now b side f B r t t′ O z c refl in
-      let C = cumulative-now b side f B r t t′ O z c refl in
-      let F = fans-now b side f B r t t′ O z c refl in
-      let K = links-now b side f B r t t′ O z c refl in
-      let S = sections-now b side f B r t t′ O z c refl in
-      let E = bounds-now b side f B r t t′ O z c refl in
-      let U = stations-now b side f B r t t′ O z c refl in
-      let P = places-now b side f B r t t′ O z c refl in
+      let p = found side f B r t t′ O z .plan in
+      let ok = found side f B r t t′ O z .ok in
+      let L = lanes-now side f B r t t′ O z c refl in
+      let X = points-now side f B r t t′ O z c refl in
+      let C = cumulative-now side f B r t t′ O z c refl in
+      let F = fans-now side f B r t t′ O z c refl in
+      let K = links-now side f B r t t′ O z c refl in
+      let S = sections-now side f B r t t′ O z c refl in
+      let E = bounds-now side f B r t t′ O z c refl in
+      let U = stations-now side f B r t t′ O z c refl in
+      let P = places-now side f B r t t′ O z c refl in
       record {
         lanes-there = L .long;
         points-there = X .long;
@@ -114,20 +113,20 @@ module _ (b : Bool) (side : ℕ) (f : List ℕ) (B : Bytes f) (r : Read) (t t′
       → a
       ≡ advanceRows (cut c (t′ .plan .lanes) (t′ .plan .points) (t′ .cumulative) (t′ .plan .fans) (t′ .plan .links) (t′ .plan .sections)
       (t′ .plan .stations) (t′ .plan .places)) (take (2 * c .sections) (t′ .plan .bounds)) from distance rows metres
-      → Calls (opened b side f) (advanceOf (opened b side f) from distance rows metres) a t t′
+      → Calls (λ (d : Decoded). advanceOf d from distance rows metres) side f a t t′
   advance-calls from distance rows metres a e =
-      let p = found b side f B r t t′ O z .plan in
-      let ok = found b side f B r t t′ O z .ok in
-      let L = lanes-now b side f B r t t′ O z c refl in
-      let X = points-now b side f B r t t′ O z c refl in
-      let C = cumulative-now b side f B r t t′ O z c refl in
-      let F = fans-now b side f B r t t′ O z c refl in
-      let K = links-now b side f B r t t′ O z c refl in
-      let S = sections-now b side f B r t t′ O z c refl in
-      let E = bounds-now b side f B r t t′ O z c refl in
-      let U = stations-now b side f B r t t′ O z c refl in
-      let P = places-now b side f B r t t′ O z c refl in
-      calls-accepted (λ (d : Decoded). advanceOf d from distance rows metres) b side f B r t t′ O a z
+      let p = found side f B r t t′ O z .plan in
+      let ok = found side f B r t t′ O z .ok in
+      let L = lanes-now side f B r t t′ O z c refl in
+      let X = points-now side f B r t t′ O z c refl in
+      let C = cumulative-now side f B r t t′ O z c refl in
+      let F = fans-now side f B r t t′ O z c refl in
+      let K = links-now side f B r t t′ O z c refl in
+      let S = sections-now side f B r t t′ O z c refl in
+      let E = bounds-now side f B r t t′ O z c refl in
+      let U = stations-now side f B r t t′ O z c refl in
+      let P = places-now side f B r t t′ O z c refl in
+      calls-accepted (λ (d : Decoded). advanceOf d from distance rows metres) side f B r t t′ O a z
       (e
       ∙ advance-of p ok _ _ _ _ _ _ _ _ _ _ _ few many (L .is) (X .is) (C .is) (F .is) (K .is) (S .is) (E .is) (U .is) (P .is) from
       distance rows metres)

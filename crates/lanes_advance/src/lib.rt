@@ -2,8 +2,8 @@
 ghost use mathlib.Core.Path.{_≡_};
 ghost use Prim.Native.Nat.{_*_};
 ghost use lib.ListN.{take};
-ghost use Rattle.plan_format.specs.Reading.{opened};
-ghost use Rattle.tables.specs.LaneTables.{Calls, laneTables, tooShort};
+ghost use Rattle.plan_format.specs.Plan.{Decoded};
+ghost use Rattle.tables.specs.LaneTables.{Calls, laneTables};
 ghost use Rattle.advance.specs.Advance.{advanceRows};
 ghost use Rattle.advance.specs.InPlan.{advanceOf};
 ghost use Rattle.lanes_advance.specs.Advance.{AdvanceFronts, cut, position, withLists};
@@ -101,20 +101,7 @@ pub fn advance(
     positions: &mut [f64],
 ) -> Advanced
     ensures { λ r. ⌜ Calls
-        (opened
-        (tooShort
-        (laneTables (now (lanes .entry)) (now (points .entry)) (now (ends .entry)) (now (fans .entry)) (now (links .entry))
-        (now (sections .entry)) (now (bounds .entry)) (now (stations .entry)) (now (places .entry)) (now (cumulative .entry))
-        (now (tangents .entry))))
-        0 (now (file .entry)))
-        (advanceOf
-        (opened
-        (tooShort
-        (laneTables (now (lanes .entry)) (now (points .entry)) (now (ends .entry)) (now (fans .entry)) (now (links .entry))
-        (now (sections .entry)) (now (bounds .entry)) (now (stations .entry)) (now (places .entry)) (now (cumulative .entry))
-        (now (tangents .entry))))
-        0 (now (file .entry)))
-        (position lane s offset) distance (now (rows .entry)) (now (positions .entry)))
+        (λ (d : Decoded). advanceOf d (position lane s offset) distance (now (rows .entry)) (now (positions .entry))) 0 (now (file .entry))
         (withLists r (now (rows .exit)) (now (positions .exit)))
         (laneTables (now (lanes .entry)) (now (points .entry)) (now (ends .entry)) (now (fans .entry)) (now (links .entry))
         (now (sections .entry)) (now (bounds .entry)) (now (stations .entry)) (now (places .entry)) (now (cumulative .entry))

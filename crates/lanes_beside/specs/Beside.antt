@@ -1,5 +1,4 @@
 -- The lane beside from the tables after opening is the plan's.
-use mathlib.Core.Bool.{Bool}
 use mathlib.Core.List.{List}
 use mathlib.Core.Path.{ap, refl, _∙_, _≡_}
 use Prim.Native.Nat.{ℕ, _*_, _≤_}
@@ -19,7 +18,7 @@ use Rattle.beside.specs.Beside.{besideRows, zero64}
 use Rattle.beside.specs.InPlan.{besideIn, besideOf}
 use Rattle.beside.specs.InPlanLaws.{beside-is, seated}
 use Rattle.beside.specs.Seated.{Seated}
-use Rattle.tables.specs.LaneTables.{Calls, LaneTables, Opens}
+use Rattle.tables.specs.LaneTables.{Calls, LaneTables, Opens, tooShort}
 use Rattle.tables.specs.Opening.{bounds-now, fans-now, found, lanes-now, places-now}
 use Rattle.calling.specs.Calling.{calls-accepted}
 
@@ -47,29 +46,29 @@ module _ (p : Plan) (A : Accepted p) (n m : ℕ) (ls fs ps : List ℕ) (bs : Lis
   beside-of at side = rw (l, f, q, b, few, many) (beside-is p A at side)
 
 -- the tables of an accepted file
-module _ (b : Bool) (side : ℕ) (f : List ℕ) (B : Bytes f) (r : Read) (t t′ : LaneTables) (O : Opens (opened b side f) r t t′)
+module _ (side : ℕ) (f : List ℕ) (B : Bytes f) (r : Read) (t t′ : LaneTables) (O : Opens (opened (tooShort t) side f) r t t′)
     (z : r .number ≡ 0) where
   abbrev c : Counts
   c = r .counts
 
-  few : c .lanes ≡ length (found b side f B r t t′ O z .plan .lanes)
-  few = ap (λ (x : Counts). x .lanes) (found b side f B r t t′ O z .counts)
+  few : c .lanes ≡ length (found side f B r t t′ O z .plan .lanes)
+  few = ap (λ (x : Counts). x .lanes) (found side f B r t t′ O z .counts)
 
-  many : c .places ≡ length (found b side f B r t t′ O z .plan .places)
-  many = ap (λ (x : Counts). x .places) (found b side f B r t t′ O z .counts)
+  many : c .places ≡ length (found side f B r t t′ O z .plan .places)
+  many = ap (λ (x : Counts). x .places) (found side f B r t t′ O z .counts)
 
   pub beside-fronts : BesideFronts c (t′ .plan .lanes) (t′ .plan .fans) (t′ .plan .places) (t′ .plan .bounds)
   beside-fronts =
-      let L = lanes-now b side f B r t t′ O z c refl in
-      let F = fans-now b side f B r t t′ O z c refl in
-      let P = places-now b side f B r t t′ O z c refl in
-      let S = bounds-now b side f B r t t′ O z c refl in
+      let L = lanes-now side f B r t t′ O z c refl in
+      let F = fans-now side f B r t t′ O z c refl in
+      let P = places-now side f B r t t′ O z c refl in
+      let S = bounds-now side f B r t t′ O z c refl in
       record {
         lanes-there = L .long;
         fans-there = F .long;
         places-there = P .long;
         bounds-there = S .long;
-        rows = seated-of (found b side f B r t t′ O z .plan) (found b side f B r t t′ O z .ok) _ _ _ _ _ _ few many (L .is) (F .is)
+        rows = seated-of (found side f B r t t′ O z .plan) (found side f B r t t′ O z .ok) _ _ _ _ _ _ few many (L .is) (F .is)
             (P .is) (S .is);
       }
 
@@ -77,13 +76,13 @@ module _ (b : Bool) (side : ℕ) (f : List ℕ) (B : Bytes f) (r : Read) (t t′
       → a
       ≡ besideRows (take (6 * c .lanes) (t′ .plan .lanes)) (c .lanes) (take (5 * c .lanes) (t′ .plan .fans))
       (take (3 * c .places) (t′ .plan .places)) (c .places) (take (2 * c .sections) (t′ .plan .bounds)) at side
-      → Calls (opened b side f) (besideOf (opened b side f) at side) a t t′
+      → Calls (λ (d : Decoded). besideOf d at side) side f a t t′
   beside-calls at a e =
-      let L = lanes-now b side f B r t t′ O z c refl in
-      let F = fans-now b side f B r t t′ O z c refl in
-      let P = places-now b side f B r t t′ O z c refl in
-      let S = bounds-now b side f B r t t′ O z c refl in
-      calls-accepted (λ (d : Decoded). besideOf d at side) b side f B r t t′ O a z
+      let L = lanes-now side f B r t t′ O z c refl in
+      let F = fans-now side f B r t t′ O z c refl in
+      let P = places-now side f B r t t′ O z c refl in
+      let S = bounds-now side f B r t t′ O z c refl in
+      calls-accepted (λ (d : Decoded). besideOf d at side) side f B r t t′ O a z
       (e
-      ∙ beside-of (found b side f B r t t′ O z .plan) (found b side f B r t t′ O z .ok) _ _ _ _ _ _ few many (L .is) (F .is) (P .is)
+      ∙ beside-of (found side f B r t t′ O z .plan) (found side f B r t t′ O z .ok) _ _ _ _ _ _ few many (L .is) (F .is) (P .is)
       (S .is) at side)

@@ -2,8 +2,8 @@
 ghost use mathlib.Core.Path.{_≡_};
 ghost use Prim.Native.Nat.{_*_};
 ghost use lib.ListN.{take};
-ghost use Rattle.plan_format.specs.Reading.{opened};
-ghost use Rattle.tables.specs.LaneTables.{Calls, laneTables, tooShort};
+ghost use Rattle.plan_format.specs.Plan.{Decoded};
+ghost use Rattle.tables.specs.LaneTables.{Calls, laneTables};
 ghost use Rattle.beside.specs.Beside.{besideRows};
 ghost use Rattle.beside.specs.InPlan.{besideOf};
 ghost use Rattle.lanes_beside.specs.Beside.{BesideFronts, centerline};
@@ -60,22 +60,7 @@ pub fn beside(
     cumulative: &mut [f32],
     tangents: &mut [f32],
 ) -> BesideAnswer
-    ensures { λ r. ⌜ Calls
-        (opened
-        (tooShort
-        (laneTables (now (lanes .entry)) (now (points .entry)) (now (ends .entry)) (now (fans .entry)) (now (links .entry))
-        (now (sections .entry)) (now (bounds .entry)) (now (stations .entry)) (now (places .entry)) (now (cumulative .entry))
-        (now (tangents .entry))))
-        side (now (file .entry)))
-        (besideOf
-        (opened
-        (tooShort
-        (laneTables (now (lanes .entry)) (now (points .entry)) (now (ends .entry)) (now (fans .entry)) (now (links .entry))
-        (now (sections .entry)) (now (bounds .entry)) (now (stations .entry)) (now (places .entry)) (now (cumulative .entry))
-        (now (tangents .entry))))
-        side (now (file .entry)))
-        (centerline lane s) side)
-        r
+    ensures { λ r. ⌜ Calls (λ (d : Decoded). besideOf d (centerline lane s) side) side (now (file .entry)) r
         (laneTables (now (lanes .entry)) (now (points .entry)) (now (ends .entry)) (now (fans .entry)) (now (links .entry))
         (now (sections .entry)) (now (bounds .entry)) (now (stations .entry)) (now (places .entry)) (now (cumulative .entry))
         (now (tangents .entry)))

@@ -1,11 +1,11 @@
 // The public calls of `lanes` for Rust or C to link, each with its contract.
 ghost use mathlib.Core.Path.{_≡_};
-ghost use Rattle.plan_format.specs.Reading.{opened};
+ghost use Rattle.plan_format.specs.Plan.{Decoded};
 ghost use Rattle.pose.specs.Lanes.{poseOf};
 ghost use Rattle.nearest.specs.Nearest.{nearestFrom};
 ghost use Rattle.advance.specs.InPlan.{advanceOf};
 ghost use Rattle.beside.specs.InPlan.{besideOf};
-ghost use Rattle.tables.specs.LaneTables.{Calls, laneTables, tooShort};
+ghost use Rattle.tables.specs.LaneTables.{Calls, laneTables};
 ghost use Rattle.calling.specs.Calling.{point};
 ghost use Rattle.lanes_advance.specs.Advance.{position, withLists};
 ghost use Rattle.lanes_beside.specs.Beside.{centerline};
@@ -34,22 +34,7 @@ pub extern "C" fn kartsodi_pose(
     cumulative: &mut [f32],
     tangents: &mut [f32],
 ) -> Posed
-    ensures { λ r. ⌜ Calls
-        (opened
-        (tooShort
-        (laneTables (now (lanes .entry)) (now (points .entry)) (now (ends .entry)) (now (fans .entry)) (now (links .entry))
-        (now (sections .entry)) (now (bounds .entry)) (now (stations .entry)) (now (places .entry)) (now (cumulative .entry))
-        (now (tangents .entry))))
-        0 (now (file .entry)))
-        (poseOf
-        (opened
-        (tooShort
-        (laneTables (now (lanes .entry)) (now (points .entry)) (now (ends .entry)) (now (fans .entry)) (now (links .entry))
-        (now (sections .entry)) (now (bounds .entry)) (now (stations .entry)) (now (places .entry)) (now (cumulative .entry))
-        (now (tangents .entry))))
-        0 (now (file .entry)))
-        (lane .0) s)
-        r
+    ensures { λ r. ⌜ Calls (λ (d : Decoded). poseOf d (lane .0) s) 0 (now (file .entry)) r
         (laneTables (now (lanes .entry)) (now (points .entry)) (now (ends .entry)) (now (fans .entry)) (now (links .entry))
         (now (sections .entry)) (now (bounds .entry)) (now (stations .entry)) (now (places .entry)) (now (cumulative .entry))
         (now (tangents .entry)))
@@ -93,22 +78,7 @@ pub extern "C" fn kartsodi_nearest_lane(
     cumulative: &mut [f32],
     tangents: &mut [f32],
 ) -> NearestAnswer
-    ensures { λ r. ⌜ Calls
-        (opened
-        (tooShort
-        (laneTables (now (lanes .entry)) (now (points .entry)) (now (ends .entry)) (now (fans .entry)) (now (links .entry))
-        (now (sections .entry)) (now (bounds .entry)) (now (stations .entry)) (now (places .entry)) (now (cumulative .entry))
-        (now (tangents .entry))))
-        0 (now (file .entry)))
-        (nearestFrom
-        (opened
-        (tooShort
-        (laneTables (now (lanes .entry)) (now (points .entry)) (now (ends .entry)) (now (fans .entry)) (now (links .entry))
-        (now (sections .entry)) (now (bounds .entry)) (now (stations .entry)) (now (places .entry)) (now (cumulative .entry))
-        (now (tangents .entry))))
-        0 (now (file .entry)))
-        (point x y z))
-        r
+    ensures { λ r. ⌜ Calls (λ (d : Decoded). nearestFrom d (point x y z)) 0 (now (file .entry)) r
         (laneTables (now (lanes .entry)) (now (points .entry)) (now (ends .entry)) (now (fans .entry)) (now (links .entry))
         (now (sections .entry)) (now (bounds .entry)) (now (stations .entry)) (now (places .entry)) (now (cumulative .entry))
         (now (tangents .entry)))
@@ -157,20 +127,7 @@ pub extern "C" fn kartsodi_advance(
     positions: &mut [f64],
 ) -> Advanced
     ensures { λ r. ⌜ Calls
-        (opened
-        (tooShort
-        (laneTables (now (lanes .entry)) (now (points .entry)) (now (ends .entry)) (now (fans .entry)) (now (links .entry))
-        (now (sections .entry)) (now (bounds .entry)) (now (stations .entry)) (now (places .entry)) (now (cumulative .entry))
-        (now (tangents .entry))))
-        0 (now (file .entry)))
-        (advanceOf
-        (opened
-        (tooShort
-        (laneTables (now (lanes .entry)) (now (points .entry)) (now (ends .entry)) (now (fans .entry)) (now (links .entry))
-        (now (sections .entry)) (now (bounds .entry)) (now (stations .entry)) (now (places .entry)) (now (cumulative .entry))
-        (now (tangents .entry))))
-        0 (now (file .entry)))
-        (position lane s offset) distance (now (rows .entry)) (now (positions .entry)))
+        (λ (d : Decoded). advanceOf d (position lane s offset) distance (now (rows .entry)) (now (positions .entry))) 0 (now (file .entry))
         (withLists r (now (rows .exit)) (now (positions .exit)))
         (laneTables (now (lanes .entry)) (now (points .entry)) (now (ends .entry)) (now (fans .entry)) (now (links .entry))
         (now (sections .entry)) (now (bounds .entry)) (now (stations .entry)) (now (places .entry)) (now (cumulative .entry))
@@ -219,22 +176,7 @@ pub extern "C" fn kartsodi_beside(
     cumulative: &mut [f32],
     tangents: &mut [f32],
 ) -> BesideAnswer
-    ensures { λ r. ⌜ Calls
-        (opened
-        (tooShort
-        (laneTables (now (lanes .entry)) (now (points .entry)) (now (ends .entry)) (now (fans .entry)) (now (links .entry))
-        (now (sections .entry)) (now (bounds .entry)) (now (stations .entry)) (now (places .entry)) (now (cumulative .entry))
-        (now (tangents .entry))))
-        side (now (file .entry)))
-        (besideOf
-        (opened
-        (tooShort
-        (laneTables (now (lanes .entry)) (now (points .entry)) (now (ends .entry)) (now (fans .entry)) (now (links .entry))
-        (now (sections .entry)) (now (bounds .entry)) (now (stations .entry)) (now (places .entry)) (now (cumulative .entry))
-        (now (tangents .entry))))
-        side (now (file .entry)))
-        (centerline lane s) side)
-        r
+    ensures { λ r. ⌜ Calls (λ (d : Decoded). besideOf d (centerline lane s) side) side (now (file .entry)) r
         (laneTables (now (lanes .entry)) (now (points .entry)) (now (ends .entry)) (now (fans .entry)) (now (links .entry))
         (now (sections .entry)) (now (bounds .entry)) (now (stations .entry)) (now (places .entry)) (now (cumulative .entry))
         (now (tangents .entry)))
@@ -285,20 +227,7 @@ pub extern "C" fn kartsodi_route(
     stops: &mut [f32],
 ) -> RouteAnswer
     ensures { λ r. ⌜ Calls
-        (opened
-        (tooShort
-        (laneTables (now (lanes .entry)) (now (points .entry)) (now (ends .entry)) (now (fans .entry)) (now (links .entry))
-        (now (sections .entry)) (now (bounds .entry)) (now (stations .entry)) (now (places .entry)) (now (cumulative .entry))
-        (now (tangents .entry))))
-        0 (now (file .entry)))
-        (routeOf
-        (opened
-        (tooShort
-        (laneTables (now (lanes .entry)) (now (points .entry)) (now (ends .entry)) (now (fans .entry)) (now (links .entry))
-        (now (sections .entry)) (now (bounds .entry)) (now (stations .entry)) (now (places .entry)) (now (cumulative .entry))
-        (now (tangents .entry))))
-        0 (now (file .entry)))
-        (point x y z) (point u v w) (now (chain .entry)) (now (stops .entry)))
+        (λ (d : Decoded). routeOf d (point x y z) (point u v w) (now (chain .entry)) (now (stops .entry))) 0 (now (file .entry))
         (listsOf r (now (chain .exit)) (now (stops .exit)))
         (laneTables (now (lanes .entry)) (now (points .entry)) (now (ends .entry)) (now (fans .entry)) (now (links .entry))
         (now (sections .entry)) (now (bounds .entry)) (now (stations .entry)) (now (places .entry)) (now (cumulative .entry))

@@ -1,5 +1,4 @@
 -- The nearest lane from the tables after opening is the plan's.
-use mathlib.Core.Bool.{Bool}
 use mathlib.Core.List.{List}
 use mathlib.Core.Path.{ap, refl, _∙_, _≡_}
 use Prim.Native.Nat.{ℕ, _*_, _≤_}
@@ -18,7 +17,7 @@ use Rattle.plan_format.specs.Reading.{opened}
 use Rattle.plan_format.specs.Tables.{planRows}
 use Rattle.plan_format.specs.declared.Counts.{Counts}
 use Rattle.plan_format.specs.declared.Read.{Read}
-use Rattle.tables.specs.LaneTables.{Calls, LaneTables, Opens, laneRows}
+use Rattle.tables.specs.LaneTables.{Calls, LaneTables, Opens, laneRows, tooShort}
 use Rattle.tables.specs.Opening.{Front, cumulative-now, found, lanes-now, points-now}
 use Rattle.calling.specs.Calling.{calls-accepted}
 
@@ -46,24 +45,24 @@ module _ (p : Plan) (A : Accepted p) (n m : ℕ) (lanes : List ℕ) (points cumu
   nearest-of q = rw (L .is, P .is, few) (ap (λ (ls : List Lane). nearestAmong ls q) (lanes-are p A))
 
 -- the tables of an accepted file
-module _ (b : Bool) (side : ℕ) (f : List ℕ) (B : Bytes f) (r : Read) (t t′ : LaneTables) (O : Opens (opened b side f) r t t′)
+module _ (side : ℕ) (f : List ℕ) (B : Bytes f) (r : Read) (t t′ : LaneTables) (O : Opens (opened (tooShort t) side f) r t t′)
     (z : r .number ≡ 0) where
-  few : r .counts .lanes ≡ length (found b side f B r t t′ O z .plan .lanes)
-  few = ap (λ (c : Counts). c .lanes) (found b side f B r t t′ O z .counts)
+  few : r .counts .lanes ≡ length (found side f B r t t′ O z .plan .lanes)
+  few = ap (λ (c : Counts). c .lanes) (found side f B r t t′ O z .counts)
 
   pub nearest-fronts : NearestFronts (r .counts .lanes) (r .counts .points) (t′ .plan .lanes) (t′ .plan .points) (t′ .cumulative)
   nearest-fronts =
-      fronts-of (found b side f B r t t′ O z .plan) (found b side f B r t t′ O z .ok) _ _ _ _ _ few
-      (lanes-now b side f B r t t′ O z (r .counts) refl)
-      (points-now b side f B r t t′ O z (r .counts) refl) (cumulative-now b side f B r t t′ O z (r .counts) refl)
+      fronts-of (found side f B r t t′ O z .plan) (found side f B r t t′ O z .ok) _ _ _ _ _ few
+      (lanes-now side f B r t t′ O z (r .counts) refl)
+      (points-now side f B r t t′ O z (r .counts) refl) (cumulative-now side f B r t t′ O z (r .counts) refl)
 
   pub nearest-calls : (q : Point) (a : NearestAnswer)
       → a ≡ nearestAmong
       (lanesFrom (take (6 * r .counts .lanes) (t′ .plan .lanes)) (take (3 * r .counts .points) (t′ .plan .points)) (r .counts .lanes) 0) q
-      → Calls (opened b side f) (nearestFrom (opened b side f) q) a t t′
+      → Calls (λ (d : Decoded). nearestFrom d q) side f a t t′
   nearest-calls q a e =
-      calls-accepted (λ (d : Decoded). nearestFrom d q) b side f B r t t′ O a z
+      calls-accepted (λ (d : Decoded). nearestFrom d q) side f B r t t′ O a z
       (e
-      ∙ nearest-of (found b side f B r t t′ O z .plan) (found b side f B r t t′ O z .ok) _ _ _ _ (t′ .cumulative) few
-      (lanes-now b side f B r t t′ O z (r .counts) refl)
-      (points-now b side f B r t t′ O z (r .counts) refl) (cumulative-now b side f B r t t′ O z (r .counts) refl) q)
+      ∙ nearest-of (found side f B r t t′ O z .plan) (found side f B r t t′ O z .ok) _ _ _ _ (t′ .cumulative) few
+      (lanes-now side f B r t t′ O z (r .counts) refl)
+      (points-now side f B r t t′ O z (r .counts) refl) (cumulative-now side f B r t t′ O z (r .counts) refl) q)

@@ -2,8 +2,8 @@
 ghost use mathlib.Core.Path.{_≡_};
 ghost use Prim.Native.Nat.{_*_};
 ghost use lib.ListN.{take};
-ghost use Rattle.plan_format.specs.Reading.{opened};
-ghost use Rattle.tables.specs.LaneTables.{Calls, laneTables, tooShort};
+ghost use Rattle.plan_format.specs.Plan.{Decoded};
+ghost use Rattle.tables.specs.LaneTables.{Calls, laneTables};
 ghost use Rattle.nearest.specs.Nearest.{nearestAmong, nearestFrom};
 ghost use Rattle.network.specs.Tables.{lanesFrom};
 ghost use Rattle.calling.specs.Calling.{point};
@@ -54,22 +54,7 @@ pub fn nearest_lane(
     cumulative: &mut [f32],
     tangents: &mut [f32],
 ) -> NearestAnswer
-    ensures { λ r. ⌜ Calls
-        (opened
-        (tooShort
-        (laneTables (now (lanes .entry)) (now (points .entry)) (now (ends .entry)) (now (fans .entry)) (now (links .entry))
-        (now (sections .entry)) (now (bounds .entry)) (now (stations .entry)) (now (places .entry)) (now (cumulative .entry))
-        (now (tangents .entry))))
-        0 (now (file .entry)))
-        (nearestFrom
-        (opened
-        (tooShort
-        (laneTables (now (lanes .entry)) (now (points .entry)) (now (ends .entry)) (now (fans .entry)) (now (links .entry))
-        (now (sections .entry)) (now (bounds .entry)) (now (stations .entry)) (now (places .entry)) (now (cumulative .entry))
-        (now (tangents .entry))))
-        0 (now (file .entry)))
-        (point x y z))
-        r
+    ensures { λ r. ⌜ Calls (λ (d : Decoded). nearestFrom d (point x y z)) 0 (now (file .entry)) r
         (laneTables (now (lanes .entry)) (now (points .entry)) (now (ends .entry)) (now (fans .entry)) (now (links .entry))
         (now (sections .entry)) (now (bounds .entry)) (now (stations .entry)) (now (places .entry)) (now (cumulative .entry))
         (now (tangents .entry)))

@@ -1,5 +1,4 @@
 -- The pose from the tables after opening is the plan's.
-use mathlib.Core.Bool.{Bool}
 use mathlib.Core.List.{List}
 use mathlib.Core.Path.{ap, refl, _∙_, _≡_}
 use Prim.Native.Nat.{ℕ, _*_, _≤_}
@@ -15,7 +14,7 @@ use Rattle.plan_format.specs.declared.Read.{Read}
 use Rattle.pose.specs.Lanes.{Polylines, poseIn, poseOf, poseRow}
 use Rattle.pose.specs.Laws.{polylines, rows-pose}
 use Rattle.pose.specs.declared.Posed.{Posed}
-use Rattle.tables.specs.LaneTables.{Calls, LaneTables, Opens, laneRows}
+use Rattle.tables.specs.LaneTables.{Calls, LaneTables, Opens, laneRows, tooShort}
 use Rattle.tables.specs.Opening.{Front, cumulative-now, found, lanes-now, points-now, tangents-now}
 use Rattle.calling.specs.Calling.{calls-accepted}
 
@@ -46,27 +45,27 @@ module _ (p : Plan) (A : Accepted p) (n m : ℕ) (lanes : List ℕ) (points cumu
   pose-of k s = rw (L .is, P .is, C .is, T .is, few) (rows-pose p A k s)
 
 -- the tables of an accepted file
-module _ (b : Bool) (side : ℕ) (f : List ℕ) (B : Bytes f) (r : Read) (t t′ : LaneTables) (O : Opens (opened b side f) r t t′)
+module _ (side : ℕ) (f : List ℕ) (B : Bytes f) (r : Read) (t t′ : LaneTables) (O : Opens (opened (tooShort t) side f) r t t′)
     (z : r .number ≡ 0) where
-  few : r .counts .lanes ≡ length (found b side f B r t t′ O z .plan .lanes)
-  few = ap (λ (c : Counts). c .lanes) (found b side f B r t t′ O z .counts)
+  few : r .counts .lanes ≡ length (found side f B r t t′ O z .plan .lanes)
+  few = ap (λ (c : Counts). c .lanes) (found side f B r t t′ O z .counts)
 
   pub pose-fronts : PoseFronts (r .counts .lanes) (r .counts .points) (t′ .plan .lanes) (t′ .plan .points) (t′ .cumulative) (t′ .tangents)
   pose-fronts =
-      fronts-of (found b side f B r t t′ O z .plan) (found b side f B r t t′ O z .ok) _ _ _ _ _ _ few
-      (lanes-now b side f B r t t′ O z (r .counts) refl)
-      (points-now b side f B r t t′ O z (r .counts) refl) (cumulative-now b side f B r t t′ O z (r .counts) refl)
-      (tangents-now b side f B r t t′ O z (r .counts) refl)
+      fronts-of (found side f B r t t′ O z .plan) (found side f B r t t′ O z .ok) _ _ _ _ _ _ few
+      (lanes-now side f B r t t′ O z (r .counts) refl)
+      (points-now side f B r t t′ O z (r .counts) refl) (cumulative-now side f B r t t′ O z (r .counts) refl)
+      (tangents-now side f B r t t′ O z (r .counts) refl)
 
   pub pose-calls : (k : ℕ) (s : Float) (a : Posed)
       → a
       ≡ poseRow k s (r .counts .lanes) (take (6 * r .counts .lanes) (t′ .plan .lanes)) (take (3 * r .counts .points) (t′ .plan .points))
       (take (r .counts .points) (t′ .cumulative)) (take (3 * r .counts .points) (t′ .tangents))
-      → Calls (opened b side f) (poseOf (opened b side f) k s) a t t′
+      → Calls (λ (d : Decoded). poseOf d k s) side f a t t′
   pose-calls k s a e =
-      calls-accepted (λ (d : Decoded). poseOf d k s) b side f B r t t′ O a z
+      calls-accepted (λ (d : Decoded). poseOf d k s) side f B r t t′ O a z
       (e
-      ∙ pose-of (found b side f B r t t′ O z .plan) (found b side f B r t t′ O z .ok) _ _ _ _ _ _ few
-      (lanes-now b side f B r t t′ O z (r .counts) refl)
-      (points-now b side f B r t t′ O z (r .counts) refl) (cumulative-now b side f B r t t′ O z (r .counts) refl)
-      (tangents-now b side f B r t t′ O z (r .counts) refl) k s)
+      ∙ pose-of (found side f B r t t′ O z .plan) (found side f B r t t′ O z .ok) _ _ _ _ _ _ few
+      (lanes-now side f B r t t′ O z (r .counts) refl)
+      (points-now side f B r t t′ O z (r .counts) refl) (cumulative-now side f B r t t′ O z (r .counts) refl)
+      (tangents-now side f B r t t′ O z (r .counts) refl) k s)

@@ -2,9 +2,9 @@
 ghost use mathlib.Core.Path.{_≡_};
 ghost use Prim.Native.Nat.{_*_};
 ghost use lib.ListN.{take};
-ghost use Rattle.plan_format.specs.Reading.{opened};
+ghost use Rattle.plan_format.specs.Plan.{Decoded};
 ghost use Rattle.pose.specs.Lanes.{poseOf, poseRow};
-ghost use Rattle.tables.specs.LaneTables.{Calls, laneTables, tooShort};
+ghost use Rattle.tables.specs.LaneTables.{Calls, laneTables};
 ghost use Rattle.lanes_pose.specs.Pose.{PoseFronts};
 use plan_format::LaneId;
 use pose::Posed;
@@ -53,22 +53,7 @@ pub fn pose(
     cumulative: &mut [f32],
     tangents: &mut [f32],
 ) -> Posed
-    ensures { λ r. ⌜ Calls
-        (opened
-        (tooShort
-        (laneTables (now (lanes .entry)) (now (points .entry)) (now (ends .entry)) (now (fans .entry)) (now (links .entry))
-        (now (sections .entry)) (now (bounds .entry)) (now (stations .entry)) (now (places .entry)) (now (cumulative .entry))
-        (now (tangents .entry))))
-        0 (now (file .entry)))
-        (poseOf
-        (opened
-        (tooShort
-        (laneTables (now (lanes .entry)) (now (points .entry)) (now (ends .entry)) (now (fans .entry)) (now (links .entry))
-        (now (sections .entry)) (now (bounds .entry)) (now (stations .entry)) (now (places .entry)) (now (cumulative .entry))
-        (now (tangents .entry))))
-        0 (now (file .entry)))
-        (lane .0) s)
-        r
+    ensures { λ r. ⌜ Calls (λ (d : Decoded). poseOf d (lane .0) s) 0 (now (file .entry)) r
         (laneTables (now (lanes .entry)) (now (points .entry)) (now (ends .entry)) (now (fans .entry)) (now (links .entry))
         (now (sections .entry)) (now (bounds .entry)) (now (stations .entry)) (now (places .entry)) (now (cumulative .entry))
         (now (tangents .entry)))

@@ -36,7 +36,7 @@ pub record Kept (p : Plan) (from to : Point) (chain : List ℕ) (stops : List Fl
 -- for every file and all tables that are long enough: what the contract of `route` says of a call (`Calls`) gives the promise
 module _ (file : List ℕ) (B : Bytes file) (t t′ : LaneTables) (long : tooShort t ≡ false) (p : Plan) (is : decode 0 file ≡ accepted p)
     (from to : Point) (F : PointIn from) (T : PointIn to) (chain chain′ : List ℕ) (stops stops′ : List Float) (r : RouteAnswer)
-    (C : Calls (opened (tooShort t) 0 file) (routeOf (opened (tooShort t) 0 file) from to chain stops) (listsOf r chain′ stops′) t t′)
+    (C : Calls (λ (d : Decoded). routeOf d from to chain stops) 0 file (listsOf r chain′ stops′) t t′)
   where
     opens : opened (tooShort t) 0 file ≡ accepted p
     unfolding opened

@@ -1,5 +1,4 @@
 -- The route: what a call answers with its lists, and that from the tables after opening it is the plan's.
-use mathlib.Core.Bool.{Bool}
 use mathlib.Core.List.{List}
 use mathlib.Core.Path.{ap, refl, _∙_, _≡_}
 use Prim.Native.Nat.{ℕ, _*_, _≤_}
@@ -20,7 +19,7 @@ use Rattle.route.specs.InPlan.{routable, route-is}
 use Rattle.route.specs.Route.{Routable, Routed, Routes, answerOf, fitted, refusal, routeIn, routed, tablesOf}
 use Rattle.route.specs.declared.RouteAnswer.{RouteAnswer}
 use Rattle.sampling.specs.Sampling.{RouteTables, routeTables}
-use Rattle.tables.specs.LaneTables.{Calls, LaneTables, Opens, laneRows}
+use Rattle.tables.specs.LaneTables.{Calls, LaneTables, Opens, laneRows, tooShort}
 use Rattle.tables.specs.Opening.{cumulative-now, fans-now, found, lanes-now, links-now, points-now}
 use Rattle.calling.specs.Calling.{calls-accepted}
 
@@ -80,23 +79,23 @@ module _ (p : Plan) (A : Accepted p) (n : ℕ) (ls : List ℕ) (xs cs : List Flo
   route-of from to chain stops = rw (tables-are, l, x, few) (route-is p A from to chain stops)
 
 -- the tables of an accepted file
-module _ (b : Bool) (side : ℕ) (f : List ℕ) (B : Bytes f) (r : Read) (t t′ : LaneTables) (O : Opens (opened b side f) r t t′)
+module _ (side : ℕ) (f : List ℕ) (B : Bytes f) (r : Read) (t t′ : LaneTables) (O : Opens (opened (tooShort t) side f) r t t′)
     (z : r .number ≡ 0) where
   abbrev c : Counts
   c = r .counts
 
-  few : c .lanes ≡ length (found b side f B r t t′ O z .plan .lanes)
-  few = ap (λ (x : Counts). x .lanes) (found b side f B r t t′ O z .counts)
+  few : c .lanes ≡ length (found side f B r t t′ O z .plan .lanes)
+  few = ap (λ (x : Counts). x .lanes) (found side f B r t t′ O z .counts)
 
   pub route-fronts : RouteFronts c (t′ .plan .lanes) (t′ .plan .points) (t′ .cumulative) (t′ .plan .fans) (t′ .plan .links)
   route-fronts =
-      let p = found b side f B r t t′ O z .plan in
-      let ok = found b side f B r t t′ O z .ok in
-      let L = lanes-now b side f B r t t′ O z c refl in
-      let X = points-now b side f B r t t′ O z c refl in
-      let C = cumulative-now b side f B r t t′ O z c refl in
-      let F = fans-now b side f B r t t′ O z c refl in
-      let K = links-now b side f B r t t′ O z c refl in
+      let p = found side f B r t t′ O z .plan in
+      let ok = found side f B r t t′ O z .ok in
+      let L = lanes-now side f B r t t′ O z c refl in
+      let X = points-now side f B r t t′ O z c refl in
+      let C = cumulative-now side f B r t t′ O z c refl in
+      let F = fans-now side f B r t t′ O z c refl in
+      let K = links-now side f B r t t′ O z c refl in
       record {
         lanes-there = L .long;
         points-there = X .long;
@@ -112,16 +111,16 @@ module _ (b : Bool) (side : ℕ) (f : List ℕ) (B : Bytes f) (r : Read) (t t′
       (routed (cut c (t′ .plan .lanes) (t′ .plan .points) (t′ .cumulative) (t′ .plan .fans) (t′ .plan .links)) (c .lanes)
       (frontLanes c (t′ .plan .lanes) (t′ .plan .points)) from to))
       a chain chain′ stops stops′
-      → Calls (opened b side f) (routeOf (opened b side f) from to chain stops) (listsOf a chain′ stops′) t t′
+      → Calls (λ (d : Decoded). routeOf d from to chain stops) side f (listsOf a chain′ stops′) t t′
   route-calls from to chain chain′ stops stops′ a e =
-      let p = found b side f B r t t′ O z .plan in
-      let ok = found b side f B r t t′ O z .ok in
-      let L = lanes-now b side f B r t t′ O z c refl in
-      let X = points-now b side f B r t t′ O z c refl in
-      let C = cumulative-now b side f B r t t′ O z c refl in
-      let F = fans-now b side f B r t t′ O z c refl in
-      let K = links-now b side f B r t t′ O z c refl in
-      calls-accepted (λ (d : Decoded). routeOf d from to chain stops) b side f B r t t′ O (listsOf a chain′ stops′) z
+      let p = found side f B r t t′ O z .plan in
+      let ok = found side f B r t t′ O z .ok in
+      let L = lanes-now side f B r t t′ O z c refl in
+      let X = points-now side f B r t t′ O z c refl in
+      let C = cumulative-now side f B r t t′ O z c refl in
+      let F = fans-now side f B r t t′ O z c refl in
+      let K = links-now side f B r t t′ O z c refl in
+      calls-accepted (λ (d : Decoded). routeOf d from to chain stops) side f B r t t′ O (listsOf a chain′ stops′) z
       (as-lists _ a chain chain′ stops stops′ e
       ∙ ap (λ (R : Routed). listed R chain stops)
       (route-of p ok _ _ _ _ _ _ few (L .is) (X .is) (C .is) (F .is) (K .is) from to (length chain) (length stops)))

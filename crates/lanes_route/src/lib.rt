@@ -1,8 +1,8 @@
 // The public call `route`: the route from one point to another, from the file's bytes.
 ghost use mathlib.Core.Path.{_≡_};
 ghost use lib.ListN.{length, take};
-ghost use Rattle.plan_format.specs.Reading.{opened};
-ghost use Rattle.tables.specs.LaneTables.{Calls, laneTables, tooShort};
+ghost use Rattle.plan_format.specs.Plan.{Decoded};
+ghost use Rattle.tables.specs.LaneTables.{Calls, laneTables};
 ghost use Rattle.network.specs.Tables.{lanesFrom};
 ghost use Rattle.route.specs.Route.{Routes, fitted, routed};
 ghost use Rattle.calling.specs.Calling.{point};
@@ -71,20 +71,7 @@ pub fn route(
     stops: &mut [f32],
 ) -> RouteAnswer
     ensures { λ r. ⌜ Calls
-        (opened
-        (tooShort
-        (laneTables (now (lanes .entry)) (now (points .entry)) (now (ends .entry)) (now (fans .entry)) (now (links .entry))
-        (now (sections .entry)) (now (bounds .entry)) (now (stations .entry)) (now (places .entry)) (now (cumulative .entry))
-        (now (tangents .entry))))
-        0 (now (file .entry)))
-        (routeOf
-        (opened
-        (tooShort
-        (laneTables (now (lanes .entry)) (now (points .entry)) (now (ends .entry)) (now (fans .entry)) (now (links .entry))
-        (now (sections .entry)) (now (bounds .entry)) (now (stations .entry)) (now (places .entry)) (now (cumulative .entry))
-        (now (tangents .entry))))
-        0 (now (file .entry)))
-        (point x y z) (point u v w) (now (chain .entry)) (now (stops .entry)))
+        (λ (d : Decoded). routeOf d (point x y z) (point u v w) (now (chain .entry)) (now (stops .entry))) 0 (now (file .entry))
         (listsOf r (now (chain .exit)) (now (stops .exit)))
         (laneTables (now (lanes .entry)) (now (points .entry)) (now (ends .entry)) (now (fans .entry)) (now (links .entry))
         (now (sections .entry)) (now (bounds .entry)) (now (stations .entry)) (now (places .entry)) (now (cumulative .entry))

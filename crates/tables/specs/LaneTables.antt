@@ -10,7 +10,7 @@ use lib.ListN.{length}
 use Rattle.geometry.specs.Polyline.{cumulativeOf, tangentsOf, vectorAt}
 use Rattle.geometry.specs.declared.Ends.{Ends}
 use Rattle.plan_format.specs.Plan.{Decoded, Plan, accepted, refused}
-use Rattle.plan_format.specs.Reading.{readOf, short}
+use Rattle.plan_format.specs.Reading.{opened, readOf, short}
 use Rattle.plan_format.specs.Records.{Lane}
 use Rattle.plan_format.specs.Tables.{Tables, endRow, loaded, over, planRows, rows, tables}
 use Rattle.plan_format.specs.declared.Read.{Read}
@@ -72,7 +72,8 @@ pub record Opens (d : Decoded) (r : Read) (t t′ : LaneTables) : Type 0 where
   pub read : r ≡ readOf d
   pub tables : t′ ≡ tablesAfter d t
 
--- the whole promise of a public call: it answers `answer`, of which the lists that it writes are part, and the tables t′ on return
-pub record Calls {R : Type 0} (d : Decoded) (answer r : R) (t t′ : LaneTables) : Type 0 where
-  pub answer-is : r ≡ answer
-  pub tables : t′ ≡ tablesAfter d t
+-- the whole promise of a public call over a file of these bytes: what it answers, the lists that it writes being part of that, is `answer` of what
+-- the file decodes to; and the tables t′ on return
+pub record Calls {R : Type 0} (answer : Decoded → R) (side : ℕ) (file : List ℕ) (r : R) (t t′ : LaneTables) : Type 0 where
+  pub answer-is : r ≡ answer (opened (tooShort t) side file)
+  pub tables : t′ ≡ tablesAfter (opened (tooShort t) side file) t

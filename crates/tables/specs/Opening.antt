@@ -358,10 +358,10 @@ module _ (side : ℕ) (s : List ℕ) (t : Tables) (cs ts : List Float) where
             opens-by (same-opened ∙ P .is) (R .read ∙ ap readOf (P .is)) (all-held p t′ cs′ ts′ now-loaded cs-are ts-are)
 
 -- WHAT A CALLER FINDS in the tables of an accepted file: the front of each is the plan's rows
-module _ (b : Bool) (side : ℕ) (s : List ℕ) (B : Bytes s) (r : Read) (t t′ : LaneTables) (O : Opens (opened b side s) r t t′)
+module _ (side : ℕ) (s : List ℕ) (B : Bytes s) (r : Read) (t t′ : LaneTables) (O : Opens (opened (tooShort t) side s) r t t′)
     (z : r .number ≡ 0) where
-  pub found : Plans (opened b side s) r
-  found = has-plan b side s B r (O .read) z
+  pub found : Plans (opened (tooShort t) side s) r
+  found = has-plan (tooShort t) side s B r (O .read) z
 
   abbrev plan : Plan
   plan = found .plan

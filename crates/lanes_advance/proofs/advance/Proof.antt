@@ -59,7 +59,7 @@ returns c =
     let opens = c₁ .before .before .before .before .before .before .before .before .before .before .before .«open» in
     let known = c₃ .before .before .before .before .before .before .before .before .shared-slice-known in
     let bytes : Bytes (a .file .now) = (λ i. omega (arith, known .given i)) in
-    calls-refused (λ (d : Decoded). advanceOf d (position (a .lane) (a .s) (a .offset)) (a .distance) (a .rows .now) (a .positions .now)) _ 0
+    calls-refused (λ (d : Decoded). advanceOf d (position (a .lane) (a .s) (a .offset)) (a .distance) (a .rows .now) (a .positions .now)) 0
     (a .file .now) bytes (opens .result) _ _ (opens .ensures) (withLists (c .refused .result) (a .rows .now) (a .positions .now))
     (c .before .if1 .taken)
     (ap (λ (r : Advanced). withLists r (a .rows .now) (a .positions .now)) (c .refused .ensures))
@@ -74,7 +74,7 @@ advance-from-requires c κs =
     let opens = c₂ .before .before .before .before .before .before .before .«open» in
     let known = c₄ .before .before .before .before .shared-slice-known in
     let bytes : Bytes (a .file .now) = (λ i. omega (arith, known .given i)) in
-    advance-fronts _ 0 (a .file .now) bytes (opens .result) _ _ (opens .ensures)
+    advance-fronts 0 (a .file .now) bytes (opens .result) _ _ (opens .ensures)
     (c .before .before .before .before .before .before .before .before .before .before .before .if1 .left)
 
 same-length-12 : tie.Need-same-length-12
@@ -141,7 +141,7 @@ returns-2 c =
     let opens = c₂ .before .before .before .before .before .before .before .before .before .before .before .before .«open» in
     let known = c₄ .before .before .before .before .before .before .before .before .before .shared-slice-known in
     let bytes : Bytes (a .file .now) = (λ i. omega (arith, known .given i)) in
-    advance-calls _ 0 (a .file .now) bytes (opens .result) _ _ (opens .ensures) (c₁ .before .before .if1 .left) (position (a .lane) (a .s)
+    advance-calls 0 (a .file .now) bytes (opens .result) _ _ (opens .ensures) (c₁ .before .before .if1 .left) (position (a .lane) (a .s)
     (a .offset))
     (a .distance) (a .rows .now) (a .positions .now) _ (c .before .before .before .before .advance-from .ensures)
 

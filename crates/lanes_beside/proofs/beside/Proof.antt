@@ -57,7 +57,7 @@ returns c =
     let opens = c₁ .before .before .before .before .before .before .before .before .before .before .before .«open» in
     let known = c₃ .before .before .before .before .before .before .shared-slice-known in
     let bytes : Bytes (a .file .now) = (λ i. omega (arith, known .given i)) in
-    calls-refused (λ (d : Decoded). besideOf d (centerline (a .lane) (a .s)) (a .side)) _ (a .side) (a .file .now) bytes (opens .result) _ _
+    calls-refused (λ (d : Decoded). besideOf d (centerline (a .lane) (a .s)) (a .side)) (a .side) (a .file .now) bytes (opens .result) _ _
     (opens .ensures) (c .refused .result) (c .before .if1 .taken) (c .refused .ensures)
 
 beside-from-requires : tie.Need-beside-from-requires
@@ -69,7 +69,7 @@ beside-from-requires c κs =
     let opens = c₂ .«open» in
     let known = c₃ .before .before .before .before .before .before .before .before .before .shared-slice-known in
     let bytes : Bytes (a .file .now) = (λ i. omega (arith, known .given i)) in
-    beside-fronts _ (a .side) (a .file .now) bytes (opens .result) _ _ (opens .ensures) (c .before .before .before .before .if1 .left)
+    beside-fronts (a .side) (a .file .now) bytes (opens .result) _ _ (opens .ensures) (c .before .before .before .before .if1 .left)
 
 same-length-12 : tie.Need-same-length-12
 same-length-12 c = search needs
@@ -113,7 +113,7 @@ returns-2 c =
     let opens = c₂ .before .«open» in
     let known = c₃ .before .before .before .before .before .before .before .before .before .before .shared-slice-known in
     let bytes : Bytes (a .file .now) = (λ i. omega (arith, known .given i)) in
-    beside-calls _ (a .side) (a .file .now) bytes (opens .result) _ _ (opens .ensures)
+    beside-calls (a .side) (a .file .now) bytes (opens .result) _ _ (opens .ensures)
     (c .before .before .before .before .before .if1 .left) (centerline (a .lane) (a .s))
     (c .beside-from .result) (c .beside-from .ensures)
 

@@ -57,7 +57,7 @@ returns c =
     let a = first .before .args in
     let opens = there .«open» in
     let bytes : Bytes (a .file .now) = (λ i. omega (arith, first .shared-slice-known .given i)) in
-    calls-refused (λ (d : Decoded). nearestFrom d (point (a .x) (a .y) (a .z))) _ 0 (a .file .now) bytes (opens .result) _ _ (opens .ensures)
+    calls-refused (λ (d : Decoded). nearestFrom d (point (a .x) (a .y) (a .z))) 0 (a .file .now) bytes (opens .result) _ _ (opens .ensures)
     (c .refuse .result) (c .before .if1 .taken) (c .refuse .ensures)
 
 nearest-from-requires : tie.Need-nearest-from-requires
@@ -69,7 +69,7 @@ nearest-from-requires c κs =
     let a = first .before .args in
     let opens = there .«open» in
     let bytes : Bytes (a .file .now) = (λ i. omega (arith, first .shared-slice-known .given i)) in
-    nearest-fronts _ 0 (a .file .now) bytes (opens .result) _ _ (opens .ensures) (c .before .before .before .if1 .left)
+    nearest-fronts 0 (a .file .now) bytes (opens .result) _ _ (opens .ensures) (c .before .before .before .if1 .left)
 
 same-length-12 : tie.Need-same-length-12
 same-length-12 c =
@@ -117,7 +117,7 @@ returns-2 c =
     let a = first .before .args in
     let opens = there .«open» in
     let bytes : Bytes (a .file .now) = (λ i. omega (arith, first .shared-slice-known .given i)) in
-    nearest-calls _ 0 (a .file .now) bytes (opens .result) _ _ (opens .ensures) (c .before .before .before .before .if1 .left)
+    nearest-calls 0 (a .file .now) bytes (opens .result) _ _ (opens .ensures) (c .before .before .before .before .if1 .left)
     (point (a .x) (a .y) (a .z)) (c .nearest-from .result)
     (c .nearest-from .ensures)
 

@@ -67,7 +67,7 @@ returns c =
     let opens = d .before .before .before .before .before .before .before .before .before .before .before .before .«open» in
     let known = ddd .before .before .before .before .before .before .before .before .before .shared-slice-known in
     let bytes : Bytes (a .file .now) = (λ i. omega (arith, known .given i)) in
-    calls-refused (λ (d : Decoded). poseOf d (a .lane .0) (a .s)) _ 0 (a .file .now) bytes (opens .result) _ _ (opens .ensures)
+    calls-refused (λ (d : Decoded). poseOf d (a .lane .0) (a .s)) 0 (a .file .now) bytes (opens .result) _ _ (opens .ensures)
     (c .refuse .result) (c .before .if1 .taken) (c .refuse .ensures)
 
 pose-from-requires : tie.Need-pose-from-requires
@@ -80,7 +80,7 @@ pose-from-requires c κs =
     let opens = dd .before .before .«open» in
     let known = ddd .before .before .before .before .before .before .before .before .before .before .before .before .shared-slice-known in
     let bytes : Bytes (a .file .now) = (λ i. omega (arith, known .given i)) in
-    pose-fronts _ 0 (a .file .now) bytes (opens .result) _ _ (opens .ensures) (c .before .before .before .before .if1 .left)
+    pose-fronts 0 (a .file .now) bytes (opens .result) _ _ (opens .ensures) (c .before .before .before .before .if1 .left)
 
 same-length-12 : tie.Need-same-length-12
 same-length-12 c =
@@ -141,7 +141,7 @@ returns-2 c =
     let opens = dd .before .before .before .«open» in
     let known = dddd .shared-slice-known in
     let bytes : Bytes (a .file .now) = (λ i. omega (arith, known .given i)) in
-    pose-calls _ 0 (a .file .now) bytes (opens .result) _ _ (opens .ensures) (c .before .before .before .before .before .if1 .left) (a .lane .0)
+    pose-calls 0 (a .file .now) bytes (opens .result) _ _ (opens .ensures) (c .before .before .before .before .before .if1 .left) (a .lane .0)
     (a .s) (c .pose-from .result)
     (c .pose-from .ensures)
 

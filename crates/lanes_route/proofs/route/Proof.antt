@@ -59,7 +59,7 @@ returns c =
     let known = c₃ .before .before .before .before .before .before .before .before .shared-slice-known in
     let bytes : Bytes (a .file .now) = (λ i. omega (arith, known .given i)) in
     calls-refused
-    (λ (d : Decoded). routeOf d (point (a .x) (a .y) (a .z)) (point (a .u) (a .v) (a .w)) (a .chain .now) (a .stops .now)) _ 0
+    (λ (d : Decoded). routeOf d (point (a .x) (a .y) (a .z)) (point (a .u) (a .v) (a .w)) (a .chain .now) (a .stops .now)) 0
     (a .file .now) bytes (opens .result) _ _ (opens .ensures) (listsOf (c .refused .result) (a .chain .now) (a .stops .now))
     (c .before .if1 .taken)
     (ap (λ (r : RouteAnswer). listsOf r (a .chain .now) (a .stops .now)) (c .refused .ensures))
@@ -74,7 +74,7 @@ route-from-requires c κs =
     let opens = c₂ .before .before .before .«open» in
     let known = c₄ .shared-slice-known in
     let bytes : Bytes (a .file .now) = (λ i. omega (arith, known .given i)) in
-    route-fronts _ 0 (a .file .now) bytes (opens .result) _ _ (opens .ensures) (c .before .before .before .before .before .before .before .if1 .left)
+    route-fronts 0 (a .file .now) bytes (opens .result) _ _ (opens .ensures) (c .before .before .before .before .before .before .before .if1 .left)
 
 same-length-12 : tie.Need-same-length-12
 same-length-12 c =
@@ -139,7 +139,7 @@ returns-2 c =
     let opens = c₂ .before .before .before .before .before .before .before .before .«open» in
     let known = c₄ .before .before .before .before .before .shared-slice-known in
     let bytes : Bytes (a .file .now) = (λ i. omega (arith, known .given i)) in
-    route-calls _ 0 (a .file .now) bytes (opens .result) _ _ (opens .ensures)
+    route-calls 0 (a .file .now) bytes (opens .result) _ _ (opens .ensures)
     (c .before .before .before .before .before .before .before .before .before .before .before .before .if1 .left) (point (a .x) (a .y) (a .z))
     (point (a .u) (a .v) (a .w)) (a .chain .now) _ (a .stops .now) _ _ (c .before .before .before .before .route-from .ensures)
 
