@@ -1,17 +1,26 @@
 -- The cases of document 01 on chains: what the search finds over the tables, and what the chains of the link records cost.
-use mathlib.Core.Bool.{false, true}
-use mathlib.Core.List.{List, map, [], _∷_}
-use mathlib.Core.Path.{refl, _≡_}
-use Prim.Native.Nat.{ℕ}
+use mathlib.Core.Bool.{Bool, false, not, true, true≢false, _&&_}
+use mathlib.Core.List.{List, List·Memᴰ, List·Memᴰ·cases-cons, List·Memᴰ·not-nil, map, [], _∷_}
+use mathlib.Core.Logic.{inl, inr, _⊎_, _≢_}
+use mathlib.Core.Path.{refl, subst, sym, _≡_}
+use Prim.Native.Nat.{suc, ℕ, _<_}
+use native.Mathlib.Omega.{arith}
 use lib.Count.{trailingZeros}
+use lib.Dec.{lit<}
 use lib.IntN.{pos}
-use lib.Ieee.{Float, add, fin, lt, odd, ofBits, round, size, sum, units}
+use lib.Ieee.{Float, add, eq, fin, isNan, lt, odd, ofBits, round, size, sum, units}
+use Rattle.float.specs.Sign.{isNegative}
+use Rattle.float.specs.declared.choose.Order.{Order}
+use Rattle.float.specs.declared.choose.Order.the-variants.{Greater}
 use Rattle.plan_format.specs.Plan.{indexOf}
 use Rattle.plan_format.specs.Records.{Link}
 use Rattle.rows.specs.Rows.{laneNumber}
-use Rattle.search.specs.LaneGraph.{LaneGraph, edges, laneGraph, out, searchedIn}
+use Rattle.search.specs.LaneGraph.{LaneGraph, edges, f32Costs, laneChange, laneGraph, out, searchedIn}
 use Rattle.search.specs.Search.{Result, blank, expanded, found, leastOpen, marked, rebuild, refused, relaxed, run, searched, settled}
-use Rattle.optimality.specs.Chains.{addSteps, chainCost, hasLink, isChain, leadsTo, stepCost}
+use Rattle.optimality.specs.Chains.{addSteps, chainCost, changeCost, hasLink, isChain, leadsTo, stepCost}
+use Rattle.optimality.specs.Heap.{Entry, Pops, Runs, Taken, back, begun, compareEntries, first, fresh, further, later}
+use Rattle.optimality.specs.Heap.{push, pushAll, reached}
+use Rattle.optimality.specs.HeapOrder.{isGreater, not-greater}
 
 -- 8, 16, 30 and 32 m
 abbrev m8 : Float
@@ -26,12 +35,17 @@ m30 = fin false 15 (pos 1)
 abbrev m32 : Float
 m32 = fin false 1 (pos 5)
 
+-- 30, to the reader and to the search
+change : (changeCost ≡ m30) × (changeCost ≡ laneChange)
+unfolding ofBits
+change = (refl, refl)
+
 -- a lane's row and a fan, of which only what the search reads is not zero
 abbrev laneRow : ℕ → List ℕ → List ℕ
 laneRow number more = number ∷ 0 ∷ 0 ∷ 0 ∷ 0 ∷ 2 ∷ more
 
 abbrev fan : ℕ → ℕ → ℕ → List ℕ → List ℕ
-fan first successors neighbours more = first ∷ successors ∷ 0 ∷ neighbours ∷ 256 ∷ more
+fan start successors neighbours more = start ∷ successors ∷ 0 ∷ neighbours ∷ 256 ∷ more
 
 abbrev link : ℕ → ℕ → ℕ → Link
 link from role to = record { from = from; role = role; to = to }
@@ -69,6 +83,43 @@ searches : (numbered fourLanes (searchedIn fourLanes fourGraph 0 3) ≡ found (1
     × (searchedIn (laneRow 1 []) loneGraph 0 0 ≡ refused)
 unfolding searched run settled expanded relaxed leastOpen marked rebuild blank edges out ofBits lt add sum round size units odd trailingZeros
 searches = (refl, refl, refl, refl)
+
+-- ---- the heap form on the four lanes
+abbrev compareFour : Entry Float → Entry Float → Order
+compareFour = compareEntries (laneNumber fourLanes)
+
+abbrev noneGreater : Entry Float → List (Entry Float) → Bool
+noneGreater e [] = true
+noneGreater e (x ∷ xs) = not (isGreater (compareFour x e)) && noneGreater e xs
+
+none-greater : (e : Entry Float) (heap : List (Entry Float)) → noneGreater e heap ≡ true → (x : Entry Float) → List·Memᴰ x heap
+    → compareFour x e ≢ Greater
+none-greater e [] h x m = absurd (List·Memᴰ·not-nil m)
+none-greater e (y ∷ ys) h x m = go (isGreater (compareFour y e)) refl h (none-greater e ys) (List·Memᴰ·cases-cons m)
+  where
+    go : (b : Bool) → isGreater (compareFour y e) ≡ b → (not b && noneGreater e ys) ≡ true
+        → (noneGreater e ys ≡ true → (z : Entry Float) → List·Memᴰ z ys → compareFour z e ≢ Greater)
+        → (x ≡ y) ⊎ List·Memᴰ x ys → compareFour x e ≢ Greater
+    go true q h ih c = absurd (true≢false (sym h))
+    go false q h ih (inl p) = subst (λ (z : Entry Float). compareFour z e ≢ Greater) (sym p) (not-greater _ q)
+    go false q h ih (inr m′) = ih h x m′
+
+pops : (e : Entry Float) (heap rest : List (Entry Float)) → Taken e heap rest → noneGreater e heap ≡ true → Pops compareFour heap e rest
+pops e heap rest t h = record { taken = t; greatest = none-greater e heap h }
+
+not-last : (u : ℕ) → u < 3 → u ≢ 3
+not-last u l p = omega arith
+
+not-start : (u : ℕ) → suc u ≢ 0
+not-start u p = omega arith
+
+-- lanes 2 and 3 cost the same: 3 is popped first, then 2, whose link does not improve on lane 4, and then 4
+heap-run : Runs f32Costs compareFour (out fourGraph) 256 0 3 (begun f32Costs compareFour (out fourGraph) 256 0 3) (found (0 ∷ 2 ∷ 3 ∷ []) m16)
+unfolding pushAll push edges out ofBits lt eq isNan isNegative add sum round size units odd trailingZeros
+heap-run =
+    fresh (pops _ _ _ first refl) (not-last 2 (lit< tt)) refl
+    (fresh (pops _ _ _ (later first) refl) (not-last 1 (lit< tt)) refl
+    (reached (pops _ _ _ first refl) refl (further refl (not-start 1) (back refl refl))))
 
 -- the same chains of link records; a single lane is none
 chains : (isChain fourLinks 1 4 (1 ∷ 3 ∷ 4 ∷ []) ≡ true) × (isChain (link 1 0 1 ∷ []) 1 1 (1 ∷ 1 ∷ []) ≡ true)

@@ -1,5 +1,5 @@
 -- Document 01, "The reader's chains": chains of link records and what they cost. Lanes go by their numbers; nothing here is of
--- the search but the constant 30.
+-- the search.
 use mathlib.Core.Bool.{Bool, cond, false, true, _&&_, _||_}
 use mathlib.Core.List.{List, [], map, _∷_}
 use mathlib.Core.Path.{_≡_}
@@ -10,7 +10,6 @@ use lib.ListN.{getD, length}
 use Rattle.geometry.specs.Polyline.{arcLength}
 use Rattle.plan_format.specs.Plan.{Plan, indexOf, numberOf}
 use Rattle.plan_format.specs.Records.{Lane, Link}
-use Rattle.search.specs.LaneGraph.{laneChange}
 use Rattle.tables.specs.LaneTables.{cumulativeRow}
 
 -- there is a link record of this role from lane u to lane v
@@ -33,17 +32,21 @@ isChain links start goal [] = false
 isChain links start goal (u ∷ []) = false
 isChain links start goal (u ∷ (v ∷ vs)) = eqb u start && leadsTo links goal u (v ∷ vs)
 
+-- 30, what a step of role 2 costs
+abbrev pub changeCost : Float
+changeCost = ofBits binary32 0x41f00000
+
 -- the plan's lanes have these numbers and, in the same order, these f32 lengths
 module _ (numbers : List ℕ) (lengths : List Float) (links : List Link) where
   abbrev pub laneLength : ℕ → Float
   laneLength u = getD lengths (indexOf u numbers 0 256) nan
 
-  -- a step costs the length of the lane left for role 0 and 30 (`laneChange`) for role 2, the cheaper where both stand
+  -- a step costs the length of the lane left for role 0 and 30 for role 2, the cheaper where both stand
   unfoldable pub stepCost : ℕ → ℕ → Float
   stepCost u v =
       cond (hasLink links 0 u v)
-      (cond (hasLink links 2 u v) (cond (lt laneChange (laneLength u)) laneChange (laneLength u)) (laneLength u))
-      laneChange
+      (cond (hasLink links 2 u v) (cond (lt changeCost (laneLength u)) changeCost (laneLength u)) (laneLength u))
+      changeCost
 
   -- a chain's cost adds its steps in f32, first to last, from 0
   unfoldable pub addSteps : Float → ℕ → List ℕ → Float
@@ -59,6 +62,7 @@ module _ (numbers : List ℕ) (lengths : List Float) (links : List Link) where
     pub is-chain : ok ≡ true → isChain links start goal chain ≡ true
     pub cost-is : ok ≡ true → cost ≡ chainCost chain
     pub least : ok ≡ true → (other : List ℕ) → isChain links start goal other ≡ true → le cost (chainCost other) ≡ true
+    -- a list of 257 lanes, as `plan-run` lends, holds it
     pub fits : ok ≡ true → length chain ≤ 257
     pub refused : ok ≡ false → (other : List ℕ) → isChain links start goal other ≡ false
 

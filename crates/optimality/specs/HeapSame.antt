@@ -4,20 +4,22 @@
 use mathlib.Core.Bool.{Bool, false, true}
 use mathlib.Core.List.{List, List·Memᴰ, List·Memᴰ·cases-cons, List·Memᴰ·head, List·Memᴰ·not-nil, List·Memᴰ·tail, [], _∷_}
 use mathlib.Core.Logic.{inl, inr, ⊎-elim, _⊎_, _≢_}
-use mathlib.Core.Path.{ap, refl, subst, sym, _∙_, _≡_}
+use mathlib.Core.Path.{ap, ap₂, refl, subst, sym, _∙_, _≡_}
 use Prim.Native.Nat.{suc, zero, ℕ, _<_, _≤_}
 use native.Mathlib.Decide.{ℕ-discrete}
 use native.Mathlib.Nat.{le-antisymm, le-of-eq, le-refl, le-trans}
 use native.Mathlib.Omega.{arith}
-use lib.Dec.{ltb}
 use lib.ListN.{List·getD-eq-default, getD, getD-replicate, length, length-replicate, replicate, set}
 use lib.Seq.{getD-set-other, getD-set-same}
-use borrow.Author.Tests.{eq-eqb, le-ltb, ltb-false, ltb-true, ne-eqb}
+use borrow.Author.Tests.{eq-eqb, ltb-false, ltb-true, ne-eqb}
+use Rattle.float.specs.declared.choose.Order.{Order}
 use Rattle.search.specs.Loops.{replicate-all}
 use Rattle.search.specs.Search.{Costs, Edge, Result, State, blank, distOf, expanded, found, leastOpen, marked, rebuild, refused, relaxed}
 use Rattle.search.specs.Search.{run, searched, settled}
-use Rattle.optimality.specs.Heap.{Ends, Entry, Frontier, Pops, Runs, Taken, begun, empty, ends, first, fresh, front}
-use Rattle.optimality.specs.Heap.{later, push, pushAll, reached, stale}
+use Rattle.optimality.specs.Heap.{Ends, Entry, Frontier, Gives, Pops, Rebuilds, Runs, Taken, begun, empty, ends, first, fresh, front}
+use Rattle.optimality.specs.Heap.{isStale, later, push, pushAll, reached, stale}
+use Rattle.optimality.specs.HeapChain.{goal-back, rebuilds-one}
+use Rattle.optimality.specs.HeapOrder.{NotBefore, Ordered, Popped, heap-pops, taken-in}
 use Rattle.optimality.specs.Invariant.{Invariant, Linking, first-invariant, open-unmarked, turn-invariant, zeros, zeros-set}
 use Rattle.optimality.specs.Laws.{Laws}
 use Rattle.optimality.specs.Least.{IsLeast, Open, least-is}
@@ -29,10 +31,6 @@ taken-cases first m = List·Memᴰ·cases-cons m
 taken-cases (later t) m =
     ⊎-elim (λ p. inr (List·Memᴰ·head p)) (λ m′. ⊎-elim (λ p. inl p) (λ q. inr (List·Memᴰ·tail q)) (taken-cases t m′))
     (List·Memᴰ·cases-cons m)
-
-taken-in : {C : Type 0} {e : Entry C} {xs ys : List (Entry C)} → Taken e xs ys → List·Memᴰ e xs
-taken-in first = List·Memᴰ·head refl
-taken-in (later t) = List·Memᴰ·tail (taken-in t)
 
 rest-in : {C : Type 0} {e x : Entry C} {xs ys : List (Entry C)} → Taken e xs ys → List·Memᴰ x ys → List·Memᴰ x xs
 rest-in first m = List·Memᴰ·tail m
@@ -242,7 +240,8 @@ module _ {C : Type 0} (K : Costs C) (L : Laws K) (n : ℕ) where
 -- ---- the loop
 module _ {C : Type 0} (K : Costs C) (L : Laws K) (num : ℕ → ℕ) (out : ℕ → List (Edge C)) (size n start goal : ℕ) (few : n ≤ size)
     (in-start : start < n)
-    (G : Linking K L out n) (distinct : (a b : ℕ) → a < n → b < n → num a ≡ num b → a ≡ b) where
+    (G : Linking K L out n) (distinct : (a b : ℕ) → a < n → b < n → num a ≡ num b → a ≡ b)
+    (cmp : Entry C → Entry C → Order) (O : Ordered K L num cmp) where
   abbrev Fits : State C → List (Entry C) → Type 0
   Fits s heap = Matches K L n s heap
 
@@ -269,7 +268,7 @@ module _ {C : Type 0} (K : Costs C) (L : Laws K) (num : ℕ → ℕ) (out : ℕ 
             let m = M .full (leastNow s) (q .0) (q .1) (q .2) in
             absurd (List·Memᴰ·not-nil (subst (λ (h : List (Entry C)). List·Memᴰ (entry K L n s (leastNow s)) h) p m))
 
-    module _ (e : Entry C) (rest : List (Entry C)) (P : Pops K num heap e rest) where
+    module _ (e : Entry C) (rest : List (Entry C)) (P : Pops cmp heap e rest) where
       inn : List·Memᴰ e heap
       inn = taken-in (P .taken)
 
@@ -279,15 +278,8 @@ module _ {C : Type 0} (K : Costs C) (L : Laws K) (num : ℕ → ℕ) (out : ℕ 
       here : Listed K L n s e
       here = M .each e inn
 
-      no-less : (x : Entry C) → List·Memᴰ x heap → L .size (e .cost) ≤ L .size (x .cost)
-      no-less x m = ltb-false _ _ (sym (L .lt-size (x .cost) (e .cost) (M .each x m .cost) (here .cost)) ∙ P .cheapest x m)
-
-      no-larger : (x : Entry C) → List·Memᴰ x heap → L .size (e .cost) ≡ L .size (x .cost) → num (x .lane) ≤ num u
-      no-larger x m p =
-          P .largest x m (L .lt-size (e .cost) (x .cost) (here .cost) (M .each x m .cost) ∙ same (L .size (e .cost)) (L .size (x .cost)) p)
-        where
-          same : (a b : ℕ) → a ≡ b → ltb a b ≡ false
-          same a b p = le-ltb a b (le-of-eq (sym p))
+      not-before : (x : Entry C) → List·Memᴰ x heap → NotBefore K L num x e
+      not-before x m = O .not-before x e (M .each x m .cost) (here .cost) (P .greatest x m)
 
       -- an entry that is not stale is the least open lane's
       popped : e .cost ≡ distOf K s u → Open s u → leastNow s ≡ u
@@ -311,9 +303,9 @@ module _ {C : Type 0} (K : Costs C) (L : Laws K) (num : ℕ → ℕ) (out : ℕ 
               let b = leastNow s in
               let mb = M .full b (q .0) (q .1) (q .2) in
               let same : L .size (e .cost) ≡ at K L n s b =
-              le-antisymm (no-less (entry K L n s b) mb) (le-trans (least .all u (here .lane) o) (le-of-eq (sym ke))) in
+              le-antisymm (not-before (entry K L n s b) mb .0) (le-trans (least .all u (here .lane) o) (le-of-eq (sym ke))) in
               distinct b u (q .0) (here .lane)
-              (le-antisymm (no-larger (entry K L n s b) mb same) (least .largest u (here .lane) o ru (sym same ∙ ke)))
+              (le-antisymm (not-before (entry K L n s b) mb .1 same) (least .largest u (here .lane) o ru (sym same ∙ ke)))
 
       -- the goal's entry is not stale
       goal-current : u ≡ goal → (e .cost ≡ distOf K s u) × Open s u
@@ -325,7 +317,7 @@ module _ {C : Type 0} (K : Costs C) (L : Laws K) (num : ℕ → ℕ) (out : ℕ 
           go : Current K L n s e → (e .cost ≡ distOf K s u) × Open s u
           go (inl l) =
               let r : at K L n s u < far K L n = less (at K L n s u) (L .size (e .cost)) (far K L n) l (here .finite) in
-              absurd (no (at K L n s u) (L .size (e .cost)) l (no-less (entry K L n s u) (M .full u (here .lane) open-goal r)))
+              absurd (no (at K L n s u) (L .size (e .cost)) l (not-before (entry K L n s u) (M .full u (here .lane) open-goal r) .0))
             where
               less : (a b c : ℕ) → a < b → b < c → a < c
               less a b c x y = omega arith
@@ -333,6 +325,13 @@ module _ {C : Type 0} (K : Costs C) (L : Laws K) (num : ℕ → ℕ) (out : ℕ 
               no : (a b : ℕ) → a < b → b ≤ a → ⊥
               no a b x y = omega arith
           go (inr q) = q
+
+      -- and its chain is rebuilt
+      popped-back : u ≡ goal → Rebuilds K (frontOf K L n s heap) start goal (goal ∷ []) (rebuild size (s .prev) start goal (goal ∷ []))
+      popped-back g =
+          let q = goal-current g in
+          goal-back K L out size n start goal s order I heap (subst (Open s) g (q .1))
+          (subst (λ (x : ℕ). at K L n s x < far K L n) g (subst (λ (c : C). L .size c < far K L n) (q .0) (here .finite)))
 
       is-stale : K .lt (distOf K s u) (e .cost) ≡ true → at K L n s u < L .size (e .cost)
       is-stale t = ltb-true _ _ (sym (L .lt-size (distOf K s u) (e .cost) (I .costs u) (here .cost)) ∙ t)
@@ -471,23 +470,24 @@ module _ {C : Type 0} (K : Costs C) (L : Laws K) (num : ℕ → ℕ) (out : ℕ 
   turn (suc k) s u r e l o ne h ih = ih k (fewer s u k o h) ∙ run-next (suc k) u s e l ne
 
   -- ---- a run of the heap form
-  runs-same : {f : Frontier C} {r : Result C} → Runs K num out size start goal f r
+  runs-same : {f : Frontier C} {r : Result C} → Runs K cmp out size start goal f r
       → (s : State C) (heap : List (Entry C)) (order : List ℕ) (k : ℕ)
       → f ≡ frontOf K L n s heap → Inv s order → Fits s heap → zeros (s .closed) ≤ k → r ≡ Run (suc k) s
   runs-same (empty z) s heap order k p I M h = run-none k s (none-open s heap order I M (ap (λ (f : Frontier C). f .heap) (sym p) ∙ z))
-  runs-same (reached {e = e} {rest = rest} P g) s heap order k p I M h =
-      let P′ = subst (λ (f : Frontier C). Pops K num (f .heap) e rest) p P in
+  runs-same (reached {e = e} {rest = rest} {chain = l} P g B) s heap order k p I M h =
+      let P′ = subst (λ (f : Frontier C). Pops cmp (f .heap) e rest) p P in
       let q = goal-current s heap order I M e rest P′ g in
-      let l : goal < n = subst (λ (x : ℕ). x < n) g (here s heap order I M e rest P′ .lane) in
-      (λ j. found (rebuild size ((p j) .prev) start goal (goal ∷ [])) ((q .0 ∙ ap (distOf K s) g) j))
-      ∙ run-goal k s (popped s heap order I M e rest P′ (q .0) (q .1) ∙ g) l
+      let B′ = subst (λ (f : Frontier C). Rebuilds K f start goal (goal ∷ []) l) p B in
+      let lg : goal < n = subst (λ (x : ℕ). x < n) g (here s heap order I M e rest P′ .lane) in
+      ap₂ found (rebuilds-one K B′ (popped-back s heap order I M e rest P′ g)) (q .0 ∙ ap (distOf K s) g)
+      ∙ run-goal k s (popped s heap order I M e rest P′ (q .0) (q .1) ∙ g) lg
   runs-same (stale {e = e} {rest = rest} P ne st R) s heap order k p I M h =
-      let P′ = subst (λ (f : Frontier C). Pops K num (f .heap) e rest) p P in
+      let P′ = subst (λ (f : Frontier C). Pops cmp (f .heap) e rest) p P in
       let st′ = subst (λ (f : Frontier C). K .lt (getD (f .dist) (e .lane) (K .infinite)) (e .cost) ≡ true) p st in
       let l = is-stale s heap order I M e rest P′ st′ in
       runs-same R s rest order k (ap (λ (f : Frontier C). front K (f .dist) (f .prev) rest) p) I (dropped s heap order I M e rest P′ l) h
   runs-same (fresh {e = e} {rest = rest} {r = r} P ne st R) s heap order k p I M h =
-      let P′ = subst (λ (f : Frontier C). Pops K num (f .heap) e rest) p P in
+      let P′ = subst (λ (f : Frontier C). Pops cmp (f .heap) e rest) p P in
       let st′ = subst (λ (f : Frontier C). K .lt (getD (f .dist) (e .lane) (K .infinite)) (e .cost) ≡ false) p st in
       let Q = close s heap order I M e rest P′ ne st′ in
       let q = ap (λ (f : Frontier C). pushAll K (e .lane) (e .cost) (out (e .lane)) (front K (f .dist) (f .prev) rest)) p ∙ Q .is in
@@ -498,18 +498,18 @@ module _ {C : Type 0} (K : Costs C) (L : Laws K) (num : ℕ → ℕ) (out : ℕ 
   abbrev AllEnd : ℕ → Type 0
   AllEnd k =
       (j : ℕ) (s : State C) (heap : List (Entry C)) (order : List ℕ) → Inv s order → Fits s heap → zeros (s .closed) ≤ k → length heap ≤ j
-      → Ends K num out size start goal (frontOf K L n s heap)
+      → Ends K cmp out size start goal (frontOf K L n s heap)
 
   fresh-ends : (k : ℕ) → ((k′ : ℕ) → k ≡ suc k′ → AllEnd k′) → (s : State C) (heap : List (Entry C)) (order : List ℕ) → Inv s order
       → Fits s heap
-      → zeros (s .closed) ≤ k → (e : Entry C) (rest : List (Entry C)) → Pops K num heap e rest → e .lane ≢ goal
+      → zeros (s .closed) ≤ k → (e : Entry C) (rest : List (Entry C)) → Pops cmp heap e rest → e .lane ≢ goal
       → K .lt (distOf K s (e .lane)) (e .cost) ≡ false
-      → Ends K num out size start goal (pushAll K (e .lane) (e .cost) (out (e .lane)) (front K (s .dist) (s .prev) rest))
+      → Ends K cmp out size start goal (pushAll K (e .lane) (e .cost) (out (e .lane)) (front K (s .dist) (s .prev) rest))
   fresh-ends zero more s heap order I M h e rest P ne st =
       absurd (none-left s (e .lane) (close s heap order I M e rest P ne st .was-open) h)
   fresh-ends (suc k) more s heap order I M h e rest P ne st =
       let Q = close s heap order I M e rest P ne st in
-      subst (Ends K num out size start goal) (sym (Q .is))
+      subst (Ends K cmp out size start goal) (sym (Q .is))
       (more k refl (length (Q .heap′)) (settled K out (e .lane) s) (Q .heap′) (e .lane ∷ order) (Q .invariant) (Q .matches)
       (fewer s (e .lane) k (Q .was-open) h) (le-refl _))
 
@@ -538,6 +538,69 @@ module _ {C : Type 0} (K : Costs C) (L : Laws K) (num : ℕ → ℕ) (out : ℕ 
       pred : (a b : ℕ) → suc a ≡ suc b → a ≡ b
       pred a b e = omega arith
 
+  -- ---- a run: a heap that is not empty pops, and the turns come to an end
+  abbrev RunsFrom : Frontier C → Result C → Type 0
+  RunsFrom f r = Runs K cmp out size start goal f r
+
+  record SomeRun (f : Frontier C) : Type 0 where
+    result : Result C
+    runs : RunsFrom f result
+
+  abbrev Onward : Frontier C → Type 0
+  Onward f =
+      (s : State C) (heap : List (Entry C)) (order : List ℕ) → f ≡ frontOf K L n s heap → Inv s order → Fits s heap → SomeRun f
+
+  abbrev staleIn : Frontier C → Entry C → Bool
+  staleIn f e = isStale K cmp out size start goal f e
+
+  module _ (f : Frontier C)
+      (skip : (e : Entry C) (rest : List (Entry C)) → Pops cmp (f .heap) e rest → e .lane ≢ goal → staleIn f e ≡ true
+      → Onward (front K (f .dist) (f .prev) rest))
+      (more : (e : Entry C) (rest : List (Entry C)) → Pops cmp (f .heap) e rest → e .lane ≢ goal → staleIn f e ≡ false
+      → Onward (pushAll K (e .lane) (e .cost) (out (e .lane)) (front K (f .dist) (f .prev) rest))) where
+    one-more : Onward f
+    one-more s heap order p I M =
+        ⊎-elim (λ e. record { result = refused; runs = empty (ap (λ (g : Frontier C). g .heap) p ∙ e) }) by-entry
+        (heap-pops K L num cmp O heap (λ x m. M .each x m .cost))
+      where
+        by-entry : Popped K L num cmp heap → SomeRun f
+        by-entry Q = go (ℕ-discrete (e .lane) goal) (staleIn f e) refl
+          where
+            e : Entry C
+            e = Q .entry
+
+            rest : List (Entry C)
+            rest = Q .rest
+
+            P : Pops cmp (f .heap) e rest
+            P = subst (λ (g : Frontier C). Pops cmp (g .heap) e rest) (sym p) (Q .pops)
+
+            at-state : (b : Bool) → staleIn f e ≡ b → K .lt (distOf K s (e .lane)) (e .cost) ≡ b
+            at-state b t = ap (λ (g : Frontier C). staleIn g e) (sym p) ∙ t
+
+            go : Dec (e .lane ≡ goal) → (b : Bool) → staleIn f e ≡ b → SomeRun f
+            go (yes g) b t =
+                let l = rebuild size (s .prev) start goal (goal ∷ []) in
+                let B = popped-back s heap order I M e rest (Q .pops) g in
+                record {
+                  result = found l (e .cost);
+                  runs = reached P g (subst (λ (h : Frontier C). Rebuilds K h start goal (goal ∷ []) l) (sym p) B);
+                }
+            go (no ne) true t =
+                let l = is-stale s heap order I M e rest (Q .pops) (at-state true t) in
+                let q = ap (λ (g : Frontier C). front K (g .dist) (g .prev) rest) p in
+                let R = skip e rest P ne t s rest order q I (dropped s heap order I M e rest (Q .pops) l) in
+                record { result = R .result; runs = stale P ne t (R .runs) }
+            go (no ne) false t =
+                let N = close s heap order I M e rest (Q .pops) ne (at-state false t) in
+                let q = ap (λ (g : Frontier C). pushAll K (e .lane) (e .cost) (out (e .lane)) (front K (g .dist) (g .prev) rest)) p ∙ N .is in
+                let R = more e rest P ne t (settled K out (e .lane) s) (N .heap′) (e .lane ∷ order) q (N .invariant) (N .matches) in
+                record { result = R .result; runs = fresh P ne t (R .runs) }
+
+  some-run : {f : Frontier C} → Ends K cmp out size start goal f → Onward f
+  some-run {f} (ends skip more) =
+      one-more f (λ e rest P ne t. some-run (skip e rest P ne t)) (λ e rest P ne t. some-run (more e rest P ne t))
+
   -- ---- as `lane_path` begins
   none-matches : Fits (blank K size) []
   unfolding blank
@@ -565,7 +628,7 @@ module _ {C : Type 0} (K : Costs C) (L : Laws K) (num : ℕ → ℕ) (out : ℕ 
       (length-replicate size 0)
       (λ w lw. inl (getD-replicate size w 0 1 (omega arith)))
 
-  begun-is : begun K num out size start goal ≡ frontOf K L n first-state (first-pushed .heap′)
+  begun-is : begun K cmp out size start goal ≡ frontOf K L n first-state (first-pushed .heap′)
   unfolding blank first-state
   begun-is = first-pushed .is
 
@@ -580,13 +643,24 @@ module _ {C : Type 0} (K : Costs C) (L : Laws K) (num : ℕ → ℕ) (out : ℕ 
   unfolding first-state
   first-matches = first-pushed .matches
 
-  -- what the heap form answers is what the array form answers
-  pub heap-same : {r : Result C} → Runs K num out size start goal (begun K num out size start goal) r
-      → r ≡ searched K num out size n start goal
+  -- each run gives what the array form answers
+  heap-same : {r : Result C} → RunsFrom (begun K cmp out size start goal) r → r ≡ searched K num out size n start goal
   unfolding searched first-state
   heap-same R = runs-same R first-state (first-pushed .heap′) [] size begun-is first-holds first-matches first-zeros
 
-  pub heap-finishes : Ends K num out size start goal (begun K num out size start goal)
+  heap-finishes : Ends K cmp out size start goal (begun K cmp out size start goal)
   heap-finishes =
-      subst (Ends K num out size start goal) (sym begun-is)
+      subst (Ends K cmp out size start goal) (sym begun-is)
       (all-end size (length (first-pushed .heap′)) first-state (first-pushed .heap′) [] first-holds first-matches first-zeros (le-refl _))
+
+  heap-runs : SomeRun (begun K cmp out size start goal)
+  heap-runs = some-run heap-finishes first-state (first-pushed .heap′) [] begun-is first-holds first-matches
+
+  -- THE TWO FORMS: the heap form gives what the array form answers
+  pub heap-gives : Gives K cmp out size start goal (begun K cmp out size start goal) (searched K num out size n start goal)
+  heap-gives =
+      record {
+        runs = subst (RunsFrom (begun K cmp out size start goal)) (heap-same (heap-runs .runs)) (heap-runs .runs);
+        only = heap-same;
+        ends = heap-finishes;
+      }

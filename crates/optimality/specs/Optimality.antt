@@ -13,6 +13,7 @@ use borrow.Author.Tests.{eq-eqb, eqb-true, le-ltb, lt-ltb, ltb-false, ltb-true}
 use Rattle.exact.specs.Fractions.{eq-units}
 use Rattle.exact.specs.Sums.{Cost, LinkCost, cost-lt, cost-unique, link-cost, link-cost-finite, up-to}
 use Rattle.exact.specs.Values.{U, U-pos, size-of}
+use Rattle.float.specs.declared.choose.Order.{Order}
 use Rattle.plan_format.specs.Laws.{and-both, and-fst, and-snd}
 use Rattle.plan_format.specs.Plan.{indexOf}
 use Rattle.plan_format.specs.Records.{Link}
@@ -23,8 +24,9 @@ use Rattle.search.specs.LaneGraph.{LaneGraph, edges, f32Costs, laneChange, leng
 use Rattle.search.specs.Search.{Edge, Result, found, refused}
 use Rattle.optimality.specs.Chains.{Optimal, addSteps, chainCost, hasLink, isChain, isStep, laneLength, leadsTo, stepCost}
 use Rattle.optimality.specs.Correct.{search-correct}
-use Rattle.optimality.specs.Heap.{Ends, Frontier, Runs, begun}
-use Rattle.optimality.specs.HeapSame.{heap-finishes, heap-same}
+use Rattle.optimality.specs.Heap.{Entry, Gives, begun, compareEntries}
+use Rattle.optimality.specs.HeapOrder.{entries-ordered}
+use Rattle.optimality.specs.HeapSame.{heap-gives}
 use Rattle.optimality.specs.Invariant.{Linking}
 use Rattle.optimality.specs.Laws.{f32-laws}
 use Rattle.optimality.specs.Rows.{ChainsOk, Tabled, cheapest-steps, edges-are, numberAt, or-right, row, row-below, row-link}
@@ -230,8 +232,8 @@ module _ (numbers : List ℕ) (lengths : List Float) (links : List Link) (lanes 
       same role = row-link numbers (A .few) (A .distinct) links role u v lv
 
       go : (a b : Bool) → (a || b) ≡ true
-          → cond (a && lt w (cond b laneChange (inf false))) w (cond b laneChange (inf false)) ≡ cond a (cond b (cond (lt laneChange w) laneChange w) w)
-          laneChange
+          → cond (a && lt w (cond b laneChange (inf false))) w (cond b laneChange (inf false))
+          ≡ cond a (cond b (cond (lt laneChange w) laneChange w) w) laneChange
       go true true p = either-way w laneChange cost (inr (link-cost laneChange change-cost))
       go true false p = rw finite refl
       go false true p = refl
@@ -354,23 +356,16 @@ module _ (numbers : List ℕ) (lengths : List Float) (links : List Link) (lanes 
         let right = search-correct f32Costs f32-laws (out G) 256 (G .count) start goal (rw (T .count) (A .few)) (rw (T .count) ls) linking in
         by-result (searchedIn lanes G start goal) (right (laneNumber lanes))
 
-    -- ---- the heap form of route.rs ends, and gives this chain at this cost
+    -- ---- the heap form of route.rs gives this chain at this cost
     distinct-numbers : (a b : ℕ) → a < G .count → b < G .count → laneNumber lanes a ≡ laneNumber lanes b → a ≡ b
     distinct-numbers a b la lb e =
         let p : N a ≡ N b = sym (T .number a (lane a la)) ∙ e ∙ T .number b (lane b lb) in
         sym (row-number numbers (A .few) (A .distinct) a (lane a la)) ∙ ap R p ∙ row-number numbers (A .few) (A .distinct) b (lane b lb)
 
-    abbrev heapBegun : Frontier Float
-    heapBegun = begun f32Costs (laneNumber lanes) (out G) 256 start goal
+    abbrev cmp : Entry Float → Entry Float → Order
+    cmp = compareEntries (laneNumber lanes)
 
-    pub heap-chain : {r : Result Float} → Runs f32Costs (laneNumber lanes) (out G) 256 start goal heapBegun r
-        → r ≡ searchedIn lanes G start goal
-    heap-chain R =
-        heap-same f32Costs f32-laws (laneNumber lanes) (out G) 256 (G .count) start goal (rw (T .count) (A .few)) (rw (T .count) ls) linking
-        distinct-numbers R
-
-    pub heap-loop-ends : Ends f32Costs (laneNumber lanes) (out G) 256 start goal heapBegun
-    heap-loop-ends =
-        heap-finishes f32Costs f32-laws (laneNumber lanes) (out G) 256 (G .count) start goal (rw (T .count) (A .few)) (rw (T .count) ls)
-        linking
-        distinct-numbers
+    pub heap-chain : Gives f32Costs cmp (out G) 256 start goal (begun f32Costs cmp (out G) 256 start goal) (searchedIn lanes G start goal)
+    heap-chain =
+        heap-gives f32Costs f32-laws (laneNumber lanes) (out G) 256 (G .count) start goal (rw (T .count) (A .few)) (rw (T .count) ls) linking
+        distinct-numbers cmp (entries-ordered (laneNumber lanes))

@@ -20,8 +20,8 @@ use Rattle.search.specs.Search.{Result, found, refused}
 use Rattle.tables.specs.LaneTables.{noLane}
 use Rattle.tables.specs.Lines.{cost, number-is}
 use Rattle.optimality.specs.Chains.{OptimalIn, lengthOf, lengthsOf, numbersOf}
-use Rattle.optimality.specs.Heap.{Ends, Frontier, Runs, begun}
-use Rattle.optimality.specs.Optimality.{OptimalResult, heap-chain, heap-loop-ends, optimal}
+use Rattle.optimality.specs.Heap.{Gives, begun, compareEntries}
+use Rattle.optimality.specs.Optimality.{OptimalResult, heap-chain, optimal}
 use Rattle.optimality.specs.Rows.{ChainsOk, Tabled}
 
 -- the lane graph of a plan, as its tables hold it
@@ -34,6 +34,13 @@ OptimalFrom p start goal refused =
     OptimalIn p (laneNumber (planRows p .lanes) start) (laneNumber (planRows p .lanes) goal) false [] (ofBits binary32 0)
 OptimalFrom p start goal (found chain cost) =
     let number = laneNumber (planRows p .lanes) in OptimalIn p (number start) (number goal) true (map number chain) cost
+
+-- the search of route.rs over the plan, with its heap and `Ord for State`, gives r
+abbrev pub HeapGives : Plan → ℕ → ℕ → Result Float → Type 0
+HeapGives p start goal r =
+    let cmp = compareEntries (laneNumber (planRows p .lanes)) in
+    let links = out (graphIn p) in
+    Gives f32Costs cmp links 256 start goal (begun f32Costs cmp links 256 start goal) r
 
 module _ (p : Plan) (A : Accepted p) where
   abbrev ns : List ℕ
@@ -143,17 +150,10 @@ module _ (p : Plan) (A : Accepted p) where
         by-numbers (searchedIn (planRows p .lanes) (graphIn p) start goal)
         (optimal ns (lengthsOf p) (p .links) (planRows p .lanes) (graphIn p) chains-ok tabled start goal (in-numbers start ls) (in-numbers goal lg))
 
-    -- the heap form of route.rs ends, and gives this chain at this cost
-    abbrev heapIn : Frontier Float
-    heapIn = begun f32Costs (laneNumber (planRows p .lanes)) (out (graphIn p)) 256 start goal
-
-    pub heap-optimal : {r : Result Float} → Runs f32Costs (laneNumber (planRows p .lanes)) (out (graphIn p)) 256 start goal heapIn r
-        → r ≡ searchedIn (planRows p .lanes) (graphIn p) start goal
-    heap-optimal R =
+    -- THE HEAP FORM. Document 01, "`HashMap` and `BinaryHeap` in `Search`": the search carries its distances and predecessors inside its
+    -- state, and takes the least cost first, among equal costs the larger lane number. It gives what the Rust gives by its heap: that loop
+    -- comes to an end, with this chain at this cost, or refused where this is
+    pub heap-form : HeapGives p start goal (searchedIn (planRows p .lanes) (graphIn p) start goal)
+    heap-form =
         heap-chain ns (lengthsOf p) (p .links) (planRows p .lanes) (graphIn p) chains-ok tabled start goal (in-numbers start ls)
-        (in-numbers goal lg) R
-
-    pub heap-ends : Ends f32Costs (laneNumber (planRows p .lanes)) (out (graphIn p)) 256 start goal heapIn
-    heap-ends =
-        heap-loop-ends ns (lengthsOf p) (p .links) (planRows p .lanes) (graphIn p) chains-ok tabled start goal (in-numbers start ls)
         (in-numbers goal lg)

@@ -3,7 +3,7 @@ use mathlib.Core.Bool.{Bool, cond, false, true, true≢false, _&&_, _||_}
 use mathlib.Core.List.{List, List·Memᴰ, List·Memᴰ·cases-cons, List·Memᴰ·head, List·Memᴰ·not-nil, List·Memᴰ·tail, [], _++_, _∷_}
 use mathlib.Core.Logic.{⊎-elim}
 use mathlib.Core.Path.{refl, sym, _∙_, _≡_}
-use Prim.Native.Nat.{suc, ℕ, _*_, _+_, _<_, _≤_}
+use Prim.Native.Nat.{suc, ℕ, _+_, _<_, _≤_}
 use native.Mathlib.Omega.{arith}
 use lib.Dec.{eqb, ltb}
 use lib.Ieee.{Float, lt, nan}

@@ -90,7 +90,8 @@ fn expand(
     lengths: &[f32],
 ) -> Search
     requires { ⌜ (lane < count) × Sized search × Readable (laneGraph count (now fans) (now links) (now lengths)) ⌝ }
-    ensures { λ r. ⌜ Holds r (expandedIn (laneGraph count (now (fans .entry)) (now (links .entry)) (now (lengths .entry))) lane cost (stateOf search)) ⌝ }
+    ensures { λ r. ⌜ Holds r
+        (expandedIn (laneGraph count (now (fans .entry)) (now (links .entry)) (now (lengths .entry))) lane cost (stateOf search)) ⌝ }
 {
     let at = 5 * lane;
     let first = fans[at];
@@ -285,8 +286,10 @@ pub fn lane_path(
     links: &[usize],
     lengths: &[f32],
 ) -> Answer
-    requires { ⌜ (start < count) × (goal < count) × (6 * count ≤ length (now lanes)) × Readable (laneGraph count (now fans) (now links) (now lengths)) ⌝ }
-    ensures { λ r. ⌜ r ≡ answerOf (searchedIn (now (lanes .entry)) (laneGraph count (now (fans .entry)) (now (links .entry)) (now (lengths .entry))) start goal) ⌝ }
+    requires { ⌜ (start < count) × (goal < count) × (6 * count ≤ length (now lanes))
+        × Readable (laneGraph count (now fans) (now links) (now lengths)) ⌝ }
+    ensures { λ r. ⌜ r ≡ answerOf
+        (searchedIn (now (lanes .entry)) (laneGraph count (now (fans .entry)) (now (links .entry)) (now (lengths .entry))) start goal) ⌝ }
 {
     let none = no_entries();
     let first = expand(none, start, 0.0, count, fans, links, lengths);

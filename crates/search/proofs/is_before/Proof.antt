@@ -7,7 +7,7 @@ use mathlib.Core.Path.{ap, refl, sym, _∙_, _≡_}
 use Prim.Native.Nat.{ℕ}
 use lib.Dec.{eqb, ltb}
 use lib.Ieee.{Float, fin, inf, lt, nan}
-use Rattle.float_laws.proofs.Compare.{less-not-more}
+use Rattle.float_laws.specs.Compare.{less-not-more}
 use Rattle.plan_format.specs.Laws.{and-right, or-fst, or-snd}
 use Rattle.search.specs.LaneGraph.{f32Costs}
 use Rattle.search.specs.Search.{precedes}
