@@ -10,7 +10,7 @@ use Rattle.coords.specs.declared.Point.{Point}
 use Rattle.geometry_laws.specs.Range.{PointIn}
 use Rattle.lanes_route.specs.Route.{RouteLists, listsOf, routeOf}
 use Rattle.nearest.specs.Nearest.{nearestIn}
-use Rattle.plan_format.specs.Filling.{over-front}
+use Rattle.lists.specs.Over.{over-front}
 use Rattle.plan_format.specs.Laws.{Bytes}
 use Rattle.plan_format.specs.Plan.{Decoded, Plan, accepted, decode}
 use Rattle.plan_format.specs.Reading.{opened}
@@ -27,7 +27,7 @@ pub record Shows (R : Routed) (r : RouteAnswer) (chain′ : List ℕ) (stops′ 
   pub points : take (length (R .points)) stops′ ≡ R .points
 
 -- the route that a call shows, with what is promised of it
-pub record Kept (p : Plan) (from to : Point) (chain : List ℕ) (stops : List Float) (r : RouteAnswer) (chain′ : List ℕ) (stops′ : List Float)
+pub record KeepsPromise (p : Plan) (from to : Point) (chain : List ℕ) (stops : List Float) (r : RouteAnswer) (chain′ : List ℕ) (stops′ : List Float)
     : Type 0 where
   pub shown : Routed
   pub shows : Shows shown r chain′ stops′
@@ -48,7 +48,7 @@ module _ (file : List ℕ) (B : Bytes file) (t t′ : LaneTables) (long : tooSho
     abbrev route : Routed
     route = routeIn p from to (length chain) (length stops)
 
-    pub route-kept : Kept p from to chain stops r chain′ stops′
+    pub route-kept : KeepsPromise p from to chain stops r chain′ stops′
     route-kept =
         record {
           shown = route;

@@ -43,7 +43,7 @@ routeOf (accepted p) from to chain stops = listed (routeIn p from to (length cha
 
 pub as-lists : (R : Routed) (r : RouteAnswer) (chain chain′ : List ℕ) (stops stops′ : List Float) → Routes R r chain chain′ stops stops′
     → listsOf r chain′ stops′ ≡ listed R chain stops
-as-lists R r chain chain′ stops stops′ P = rw (P .answer-is, P .chain-is, P .places-is)
+as-lists R r chain chain′ stops stops′ P = rw (P .answer-is, P .chain-is, P .stops-is)
 
 -- the front of each table, for a plan with these counts
 abbrev pub cut : Counts → List ℕ → List Float → List Float → List ℕ → List ℕ → RouteTables
@@ -74,9 +74,9 @@ module _ (p : Plan) (A : Accepted p) (n : ℕ) (ls : List ℕ) (xs cs : List Flo
   routable-of : Routable (routeTables ls xs cs fs ks) n
   routable-of = rw (tables-are, few) (routable p A)
 
-  route-of : (from to : Point) (chain stops : ℕ)
-      → fitted chain stops (routed (routeTables ls xs cs fs ks) n (lanesFrom ls xs n 0) from to) ≡ routeIn p from to chain stops
-  route-of from to chain stops = rw (tables-are, l, x, few) (route-is p A from to chain stops)
+  route-of : (from to : Point) (chainRoom stopsRoom : ℕ)
+      → fitted chainRoom stopsRoom (routed (routeTables ls xs cs fs ks) n (lanesFrom ls xs n 0) from to) ≡ routeIn p from to chainRoom stopsRoom
+  route-of from to chainRoom stopsRoom = rw (tables-are, l, x, few) (route-is p A from to chainRoom stopsRoom)
 
 -- the tables of an accepted file
 module _ (side : ℕ) (f : List ℕ) (B : Bytes f) (r : Read) (t t′ : LaneTables) (O : Opens (opened (tooShort t) side f) r t t′)

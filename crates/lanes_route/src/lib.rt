@@ -1,9 +1,7 @@
 // The public call `route`: the route from one point to another, from the file's bytes.
-ghost use mathlib.Core.Path.{_≡_};
-ghost use lib.ListN.{length, take};
+ghost use lib.ListN.{length};
 ghost use Rattle.plan_format.specs.Plan.{Decoded};
 ghost use Rattle.tables.specs.LaneTables.{Calls, laneTables};
-ghost use Rattle.network.specs.Tables.{lanesFrom};
 ghost use Rattle.route.specs.Route.{Routes, fitted, routed};
 ghost use Rattle.calling.specs.Calling.{point};
 ghost use Rattle.lanes_route.specs.Route.{RouteFronts, cut, frontLanes, routeOf, listsOf};

@@ -17,11 +17,11 @@ use Rattle.network.specs.Nearest.{nearestLane}
 use Rattle.plan_format.specs.Plan.{Plan, indexOf}
 use Rattle.plan_format.specs.Records.{Lane, Link}
 use Rattle.plan_format.specs.Tables.{linked, planRows, rows, rowsFrom}
-use Rattle.sampling.specs.Kept.{flat, pushed}
+use Rattle.sampling.specs.Kept.{firstOf, flat, pushed}
 use Rattle.sampling.specs.Sampling.{changesOff, exitAt, exitFor, isAhead, isForward, leads, nearerEnd, sampleFrom, sampleLanes, sampleRoute}
 use Rattle.sampling.specs.Sampling.{sampleSpan, stepsOf, toward, travelEnd}
 use Rattle.search.specs.LaneGraph.{edges, out}
-use Rattle.search.specs.Search.{Result, blank, expanded, found, leastOpen, marked, rebuild, relaxed, run, searched, settled}
+use Rattle.search.specs.Search.{blank, expanded, found, leastOpen, marked, rebuild, relaxed, run, searched, settled}
 use Rattle.tables.specs.LaneTables.{laneRows}
 use Rattle.route.specs.Route.{between, fitted, followed, lengthsTo, pathBy, pathOf, refusal, routeIn, routed, suffices, tablesOf}
 
@@ -125,6 +125,14 @@ unfolding routeIn fitted routed between followed pathBy suffices tablesOf planRo
     segmentOf localT leading projectSegments projectTo nearerAt fractionAlong hitAlong leftNormal lengthOf normalizeOr crossOf absOf signumOf
     ceilOf add sub mul div lt le eq ofBits toUnsigned ofInt isNan
 printed = refl
+
+-- of its points a pass with room for two keeps three
+one-past : firstOf 3 (sampleRoute (tablesOf straight) (0 ∷ 1 ∷ []) two four) ≡ on six ∷ on four ∷ on two ∷ []
+unfolding tablesOf planRows laneRows rows rowsFrom linked indexOf isAhead sampleRoute sampleLanes sampleSpan sampleFrom stepsOf exitFor exitAt
+    travelEnd isForward nearerEnd changesOff leads toward pushed firstOf cumulativeOf arcAt pointAt pointAlong locateOf segmentOf localT leading
+    projectSegments projectTo nearerAt fractionAlong hitAlong leftNormal lengthOf normalizeOr crossOf absOf signumOf ceilOf add sub mul div lt le
+    eq ofBits toUnsigned ofInt isNan sqrtOf
+one-past = refl
 
 one-short : routeIn straight (on two) (on twelve) 2 17 ≡ refusal 14
 unfolding routeIn fitted routed between followed pathBy suffices tablesOf planRows laneRows rows rowsFrom linked indexOf lengthsTo isAhead

@@ -1,31 +1,25 @@
 -- An accepted plan's rows are what the route query asks of them, and its answer over the rows is the plan's.
 use mathlib.Core.List.{List, [], map, map-append, _++_, _∷_}
 use mathlib.Core.Path.{ap, ap₂, refl, sym, _∙_, _≡_}
-use Prim.Native.Nat.{suc, zero, ℕ, _<_, _≤_}
+use Prim.Native.Nat.{suc, zero, ℕ, _≤_}
 use native.Mathlib.Omega.{arith}
 use lib.Ieee.{Float}
 use lib.ListN.{getD, length, take}
 use lib.Seq.{take-length, take-suc}
 use Rattle.advance.specs.InPlanLaws.{laid}
 use Rattle.coords.specs.declared.Point.{Point}
-use Rattle.nearest.proofs.PlanLanes.{lanes-are, searchable}
-use Rattle.nearest.specs.Nearest.{lanesOf}
+use Rattle.nearest.specs.PlanLanes.{lanes-are, searchable}
 use Rattle.network.specs.Lanes.{Lane}
 use Rattle.network.specs.Tables.{lanesFrom}
 use Rattle.optimality.specs.Chains.{lengthOf, lengthsOf}
 use Rattle.optimality.specs.Plans.{readable}
 use Rattle.plan.specs.Accepted.{Accepted}
 use Rattle.plan_format.specs.Plan.{Plan}
-use Rattle.plan_format.specs.Records as records
 use Rattle.plan_format.specs.Tables.{planRows}
-use Rattle.tables.specs.LaneTables.{laneRows}
+use Rattle.tables.specs.LaneTables.{laneRows, noLane}
 use Rattle.tables.specs.Lines.{length-is}
 use Rattle.route.specs.Route.{Routable, fitted, lengthsTo, routeIn, routed, tablesOf}
 use Rattle.route.specs.Steps.{length-lengths}
-
--- what stands for a lane past the end
-abbrev noLane : records.Lane
-noLane = record { number = 0; type = 0; direction = 0; ends = 0; count = 0; points = []; tangents = [] }
 
 module _ (p : Plan) (A : Accepted p) where
   abbrev lanes : List ℕ
@@ -58,9 +52,10 @@ module _ (p : Plan) (A : Accepted p) where
       }
 
   -- what `route` answers over the plan's rows
-  pub route-is : (from to : Point) (chain places : ℕ)
-      → fitted chain places (routed (tablesOf p) (length (p .lanes)) (lanesFrom (planRows p .lanes) (planRows p .points) (length (p .lanes)) 0) from to)
-      ≡ routeIn p from to chain places
+  pub route-is : (from to : Point) (chainRoom stopsRoom : ℕ)
+      → fitted chainRoom stopsRoom
+      (routed (tablesOf p) (length (p .lanes)) (lanesFrom (planRows p .lanes) (planRows p .points) (length (p .lanes)) 0) from to)
+      ≡ routeIn p from to chainRoom stopsRoom
   unfolding routeIn
-  route-is from to chain places =
-      ap (λ (ls : List Lane). fitted chain places (routed (tablesOf p) (length (p .lanes)) ls from to)) (lanes-are p A)
+  route-is from to chainRoom stopsRoom =
+      ap (λ (ls : List Lane). fitted chainRoom stopsRoom (routed (tablesOf p) (length (p .lanes)) ls from to)) (lanes-are p A)

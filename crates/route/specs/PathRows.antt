@@ -1,7 +1,7 @@
 -- A path that the search finds is one of the lanes of the tables, one to 257 of them.
-use mathlib.Core.Bool.{Bool, cond, false, true, true≢false}
+use mathlib.Core.Bool.{Bool, cond, false, true}
 use mathlib.Core.List.{List, [], _∷_}
-use mathlib.Core.Path.{ap, refl, sym, _∙_, _≡_}
+use mathlib.Core.Path.{refl, _≡_}
 use Prim.Native.Nat.{suc, zero, ℕ, _+_, _<_, _≤_}
 use native.Mathlib.Omega.{arith}
 use borrow.Author.Tests.{eqb-false}
@@ -12,7 +12,7 @@ use Rattle.rows.specs.Rows.{laneNumber}
 use Rattle.sampling.specs.Passes.{PathRows}
 use Rattle.sampling.specs.Sampling.{RouteTables}
 use Rattle.search.specs.LaneGraph.{LaneGraph, f32Costs, out, searchedIn}
-use Rattle.search.specs.Loops.{least-below}
+use Rattle.search.specs.Loops.{least-below, set-below}
 use Rattle.search.specs.Search.{Edge, Result, State, blank, distOf, expanded, found, leastOpen, marked, rebuild, refused, relaxed, run, searched}
 use Rattle.search.specs.Search.{settled}
 use Rattle.route.specs.Route.{graphOf, pathBy}
@@ -20,13 +20,6 @@ use Rattle.route.specs.Route.{graphOf, pathBy}
 -- every entry is one of n lanes, and so is what stands for one past the end
 abbrev Below : ℕ → List ℕ → Type 0
 Below n xs = (j : ℕ) → getD xs j 0 < n
-
-below-set : (n : ℕ) (xs : List ℕ) (i x : ℕ) → 0 < n → x < n → Below n xs → Below n (set xs i x)
-below-set n [] i x o h b j = o
-below-set n (y ∷ ys) zero x o h b zero = h
-below-set n (y ∷ ys) zero x o h b (suc j) = b (suc j)
-below-set n (y ∷ ys) (suc i) x o h b zero = b 0
-below-set n (y ∷ ys) (suc i) x o h b (suc j) = below-set n ys i x o h (λ m. b (suc m)) j
 
 below-zeros : (n size : ℕ) → 0 < n → Below n (replicate size 0)
 below-zeros n zero o j = o
@@ -39,13 +32,13 @@ below-cons n x xs h b (suc j) = b j
 
 -- ---- the state's predecessors
 
-module _ (n : ℕ) (o : 0 < n) where
+module _ (n : ℕ) where
   below-relaxed : (u v : ℕ) (d : Float) (s : State Float) → u < n → Below n (s .prev) → Below n (relaxed f32Costs u v d s .prev)
   unfolding relaxed
   below-relaxed u v d s h b = go (lt d (distOf f32Costs s v))
     where
       go : (t : Bool) → Below n (cond t (record { dist = set (s .dist) v d; prev = set (s .prev) v u; closed = s .closed }) s .prev)
-      go true = below-set n (s .prev) v u o h b
+      go true = set-below n (s .prev) v u b h
       go false = b
 
   below-expanded : (u : ℕ) (c : Float) (es : List (Edge Float)) (s : State Float) → u < n → Below n (s .prev)
@@ -116,7 +109,7 @@ module _ (lanes : List ℕ) (G : LaneGraph) (start goal : ℕ) (o : goal < G .co
       rebuilt : PathRows chain (G .count)
       rebuilt =
           let long = rebuilt-long 256 (s .prev) start goal (goal ∷ []) in
-          let below = below-rebuilt (G .count) some 256 (s .prev) start goal (goal ∷ []) b (below-cons (G .count) goal [] o (λ j. some)) in
+          let below = below-rebuilt (G .count) 256 (s .prev) start goal (goal ∷ []) b (below-cons (G .count) goal [] o (λ j. some)) in
           record { some = omega (arith, long .0); few = omega (arith, long .1); each = λ j h. below j }
 
       go : (t w : Bool) → eqb u 256 ≡ t
@@ -124,13 +117,13 @@ module _ (lanes : List ℕ) (G : LaneGraph) (start goal : ℕ) (o : goal < G .co
           → OfPath (G .count) (cond t refused (cond w (found chain (distOf f32Costs s goal)) (rest k (settled f32Costs (out G) u s))))
       go true w e more = tt
       go false true e more = rebuilt
-      go false false e more = more (below-settled (G .count) some G u s (least-below lanes s (G .count) (eqb-false u 256 e)) b)
+      go false false e more = more (below-settled (G .count) G u s (least-below lanes s (G .count) (eqb-false u 256 e)) b)
 
   pub searched-rows : start < G .count → OfPath (G .count) (searchedIn lanes G start goal)
   unfolding searched blank
   searched-rows h =
       of-run 257 (expanded f32Costs start (f32Costs .none) (out G start) (blank f32Costs 256))
-      (below-expanded (G .count) some start (f32Costs .none) (out G start) (blank f32Costs 256) h (below-zeros (G .count) 256 some))
+      (below-expanded (G .count) start (f32Costs .none) (out G start) (blank f32Costs 256) h (below-zeros (G .count) 256 some))
 
 -- `lane_path`
 pub path-rows : (one : Bool) (T : RouteTables) (n start goal : ℕ) → start < n → goal < n → OfPath n (pathBy one T n start goal)

@@ -2,7 +2,7 @@
 use mathlib.Core.Bool.{Bool, cond, false, true, _&&_}
 use mathlib.Core.List.{List, [], map, _++_, _∷_}
 use mathlib.Core.Path.{_≡_}
-use Prim.Native.Nat.{suc, zero, ℕ, _/_, _≤_}
+use Prim.Native.Nat.{suc, zero, ℕ, _/_}
 use lib.Dec.{eqb, leb}
 use lib.Ieee.{Float}
 use lib.ListN.{length}
@@ -78,18 +78,18 @@ routed T n ls from to =
     cond (finitePoint from && finitePoint to)
     (between T n (told (nearestLane drivesTable ls from)) (told (nearestLane drivesTable ls to))) (refusal 9)
 
--- NUMBER 14 where the lists, of `lanes` and of `places` entries, do not hold the answer
+-- NUMBER 14 where the lists for the lanes and for the points, of so many entries each, do not hold the answer
 unfoldable pub fitted : ℕ → ℕ → Routed → Routed
-fitted lanes places R = cond (leb (length (R .chain)) lanes && leb (length (R .points)) places) R (refusal 14)
+fitted chainRoom stopsRoom R = cond (leb (length (R .chain)) chainRoom && leb (length (R .points)) stopsRoom) R (refusal 14)
 
 -- ---- over a plan
 
 unfoldable pub tablesOf : Plan → RouteTables
 tablesOf p = routeTables (planRows p .lanes) (planRows p .points) (laneRows p .cumulative) (planRows p .fans) (planRows p .links)
 
--- the route of a plan from one point to another, into lists of `lanes` and of `places` entries
+-- the route of a plan from one point to another, into lists with so much room
 unfoldable pub routeIn : Plan → Point → Point → ℕ → ℕ → Routed
-routeIn p from to lanes places = fitted lanes places (routed (tablesOf p) (length (p .lanes)) (lanesOf p) from to)
+routeIn p from to chainRoom stopsRoom = fitted chainRoom stopsRoom (routed (tablesOf p) (length (p .lanes)) (lanesOf p) from to)
 
 -- ---- what is promised
 
@@ -98,10 +98,10 @@ unfoldable pub answerOf : Routed → RouteAnswer
 answerOf R = record { number = R .number; lanes = length (R .chain); points = length (R .points) / 3; length = R .length }
 
 -- the answer, and the lists: the chain and the points at their fronts, the entries past them as before
-pub record Routes (R : Routed) (r : RouteAnswer) (chain chain′ : List ℕ) (places places′ : List Float) : Type 0 where
+pub record Routes (R : Routed) (r : RouteAnswer) (chain chain′ : List ℕ) (stops stops′ : List Float) : Type 0 where
   pub answer-is : r ≡ answerOf R
   pub chain-is : chain′ ≡ over (R .chain) chain
-  pub places-is : places′ ≡ over (R .points) places
+  pub stops-is : stops′ ≡ over (R .points) stops
 
 -- ---- what the rows of n lanes must be
 

@@ -1,22 +1,20 @@
 -- Laws of the route query's steps: the lengths, the path as the search's array has it, the count, the lists.
 use mathlib.Core.Bool.{Bool, cond, false, true, true≢false, _&&_}
 use mathlib.Core.List.{List, [], map, map-append, _++_, _∷_}
-use mathlib.Core.Logic.{inl, inr, ⊎-elim, _⊎_}
 use mathlib.Core.Path.{ap, ap₂, refl, subst, sym, _∙_, _≡_}
 use Prim.Native.Nat.{suc, zero, ℕ, _*_, _+_, _/_, _<_, _≤_}
 use native.Mathlib.Numerals.{add-one}
 use native.Mathlib.Omega.{arith}
-use borrow.Author.Tests.{eq-eqb, le-leb, lt-leb}
+use borrow.Author.Tests.{le-leb, lt-leb}
 use lib.Dec.{leb}
 use lib.Ieee.{Float}
-use lib.ListN.{drop, getD, length, length-append, length-map, length-take, set, take}
+use lib.ListN.{drop, getD, length, length-append, length-map, set, take}
 use lib.Seq.{length-take-le, take-all, take-at, take-suc}
-use Rattle.branches.specs.Tables.{AllLaid}
 use Rattle.coords.specs.Coords.{finitePoint}
 use Rattle.coords.specs.declared.Point.{Point}
 use Rattle.geometry.specs.Over.{over, over-next}
 use Rattle.geometry.specs.declared.Projection.{Projection}
-use Rattle.nearest.proofs.Answer.{row-below}
+use Rattle.nearest.specs.Answer.{row-below}
 use Rattle.nearest.specs.Nearest.{bothOf}
 use Rattle.nearest.specs.declared.NearestPair.{NearestPair}
 use Rattle.network.specs.Lanes.{Lane, drivesTable}
@@ -25,11 +23,10 @@ use Rattle.network.specs.Tables.{lanesFrom, told}
 use Rattle.network.specs.declared.Nearest.{Nearest}
 use Rattle.network.specs.declared.Nearest.the-variants.{Found, None}
 use Rattle.rows.specs.Rows.{arcsOf, endPoint, laneNumber, lengthOf}
-use Rattle.sampling.specs.Kept.{flat, laid}
-use Rattle.sampling.specs.Passes.{AllLinked, PathRows, Sampled, laid-flat, length-flat}
+use Rattle.sampling.specs.Kept.{firstOf, flat, laid}
+use Rattle.sampling.specs.Passes.{AllLinked, PathRows, Sampled, first-all, laid-flat, length-first, length-flat}
 use Rattle.sampling.specs.Sampling.{RouteTables, sampleRoute}
 use Rattle.sampling.specs.declared.Kept.{Kept}
-use Rattle.search.specs.LaneGraph.{Readable}
 use Rattle.search.specs.LaneGraph as graph
 use Rattle.search.specs.Search.{Result, found, refused}
 use Rattle.search.specs.declared.Answer.{Answer}
@@ -69,7 +66,9 @@ module _ (T : RouteTables) (n : ℕ) (R : Routable T n) where
 pub length-lengths : (lanes : List ℕ) (cumulative : List Float) (n : ℕ) → length (lengthsTo lanes cumulative n) ≡ n
 unfolding lengthsTo
 length-lengths lanes cumulative zero = refl
-length-lengths lanes cumulative (suc k) = length-append (lengthsTo lanes cumulative k) (lengthOf lanes cumulative k ∷ []) ∙ ap (λ (m : ℕ). m + 1) (length-lengths lanes cumulative k) ∙ add-one k
+length-lengths lanes cumulative (suc k) =
+    length-append (lengthsTo lanes cumulative k) (lengthOf lanes cumulative k ∷ [])
+    ∙ ap (λ (m : ℕ). m + 1) (length-lengths lanes cumulative k) ∙ add-one k
 
 pub lengths-start : (lanes : List ℕ) (cumulative old : List Float) → old ≡ over (lengthsTo lanes cumulative 0) old
 unfolding lengthsTo
@@ -99,10 +98,6 @@ lengths-long lanes cumulative old out n e =
 
 -- ---- the path as the search's array has it
 
-isRefused : Result Float → Bool
-isRefused refused = true
-isRefused (found path cost) = false
-
 -- nothing is found
 pub path-none : (a : Answer) (X : Result Float) → a ≡ graph.answerOf X → a .ok ≡ false → X ≡ refused
 unfolding graph.answerOf
@@ -127,25 +122,19 @@ path-found a (found path cost) n P e h =
 
 -- ---- the count of the points
 
-pub record Counted (room : ℕ) (all : List Point) (r : ℕ) : Type 0 where
-  pub fits : r ≤ room → r ≡ length all
-  pub over-room : room < r → room < length all
+-- r is how many of all the points are counted: they fit, or there are more than there is room for
+module _ (room : ℕ) (all : List Point) (r : ℕ) (c : r ≡ length (firstOf (room + 1) all)) where
+  pub count-fits : r ≤ room → r ≡ length all
+  count-fits h = let l = length-first (room + 1) all in omega arith
 
-pub counted : (room : ℕ) (all : List Point) (old : List Float) (r : Kept) (out : List Float) → Sampled room all old r out
-    → Counted room all (r .count)
-counted room all old r out S =
-    let c : r .count ≡ length (S .points) = ap (λ (q : Kept). q .count) (S .kept) in
-    record {
-      fits = λ h. ⊎-elim (λ w. c ∙ ap length w) (λ w. absurd (omega (arith, w .0, c, h))) (S .reached);
-      over-room = λ h. ⊎-elim (λ w. let l = ap length w in omega (arith, l, c, h)) (λ w. omega (arith, w .0, w .1)) (S .reached);
-    }
+  pub count-over : room < r → room < length all
+  count-over h = let l = length-first (room + 1) all in omega arith
 
 -- points that fit are all written
 pub all-written : (all : List Point) (old : List Float) (r : Kept) (out : List Float) → Sampled (length old / 3) all old r out
     → 3 * length all ≤ length old → out ≡ over (flat all) old
 all-written all old r out S h =
-    ⊎-elim (λ w. S .written ∙ ap (λ (ps : List Point). laid ps old) w ∙ laid-flat all old h)
-    (λ w. absurd (omega (arith, w .0, w .1, h))) (S .reached)
+    S .written ∙ ap (λ (ps : List Point). laid ps old) (first-all (length old / 3 + 1) all (omega arith)) ∙ laid-flat all old h
 
 -- ---- the chain of numbers
 
@@ -172,19 +161,19 @@ chain-whole lanes path old out k h e = e ∙ ap (λ (xs : List ℕ). over (map (
 -- ---- the answer
 
 -- a refusal: the lists are as before
-pub refuses : (n : ℕ) (r : RouteAnswer) (chain : List ℕ) (places : List Float) → r ≡ answerOf (refusal n)
-    → Routes (refusal n) r chain chain places places
-refuses n r chain places e = record { answer-is = e; chain-is = refl; places-is = refl }
+pub refuses : (n : ℕ) (r : RouteAnswer) (chain : List ℕ) (stops : List Float) → r ≡ answerOf (refusal n)
+    → Routes (refusal n) r chain chain stops stops
+refuses n r chain stops e = record { answer-is = e; chain-is = refl; stops-is = refl }
 
-pub routes-as : (R R′ : Routed) (r : RouteAnswer) (chain chain′ : List ℕ) (places places′ : List Float) → R ≡ R′
-    → Routes R r chain chain′ places places′ → Routes R′ r chain chain′ places places′
-routes-as R R′ r chain chain′ places places′ e P = subst (λ (Q : Routed). Routes Q r chain chain′ places places′) e P
+pub routes-as : (R R′ : Routed) (r : RouteAnswer) (chain chain′ : List ℕ) (stops stops′ : List Float) → R ≡ R′
+    → Routes R r chain chain′ stops stops′ → Routes R′ r chain chain′ stops stops′
+routes-as R R′ r chain chain′ stops stops′ e P = subst (λ (Q : Routed). Routes Q r chain chain′ stops stops′) e P
 
 -- a refusal fits everywhere
-pub refusal-fits : (lanes places n : ℕ) → refusal n ≡ fitted lanes places (refusal n)
+pub refusal-fits : (chainRoom stopsRoom n : ℕ) → refusal n ≡ fitted chainRoom stopsRoom (refusal n)
 unfolding fitted
-refusal-fits lanes places n =
-    ap₂ (λ (x y : Bool). cond (x && y) (refusal n) (refusal 14)) (sym (le-leb 0 lanes (omega arith))) (sym (le-leb 0 places (omega arith)))
+refusal-fits chainRoom stopsRoom n =
+    ap₂ (λ (x y : Bool). cond (x && y) (refusal n) (refusal 14)) (sym (le-leb 0 chainRoom (omega arith))) (sym (le-leb 0 stopsRoom (omega arith)))
 
 module _ (T : RouteTables) (path : List ℕ) (cost s t : Float) where
   all : List Point
@@ -202,35 +191,35 @@ module _ (T : RouteTables) (path : List ℕ) (cost s t : Float) where
   count-points = length-flat (sampleRoute T path s t)
 
   -- the chain does not fit
-  pub chain-over : (lanes places : ℕ) → lanes < length path → refusal 14 ≡ fitted lanes places (followed T s t (found path cost))
+  pub chain-over : (chainRoom stopsRoom : ℕ) → chainRoom < length path → refusal 14 ≡ fitted chainRoom stopsRoom (followed T s t (found path cost))
   unfolding fitted route
-  chain-over lanes places h =
+  chain-over chainRoom stopsRoom h =
       let e = count-chain in
-      let f : leb (length (route .chain)) lanes ≡ false = lt-leb (length (route .chain)) lanes (omega arith) in
-      ap (λ (x : Bool). cond (x && leb (length (route .points)) places) route (refusal 14)) (sym f)
+      let f : leb (length (route .chain)) chainRoom ≡ false = lt-leb (length (route .chain)) chainRoom (omega arith) in
+      ap (λ (x : Bool). cond (x && leb (length (route .points)) stopsRoom) route (refusal 14)) (sym f)
 
   -- the points do not
-  pub points-over : (lanes places : ℕ) → places / 3 < length (sampleRoute T path s t) → refusal 14 ≡ fitted lanes places
+  pub points-over : (chainRoom stopsRoom : ℕ) → stopsRoom / 3 < length (sampleRoute T path s t) → refusal 14 ≡ fitted chainRoom stopsRoom
       (followed T s t (found path cost))
   unfolding fitted route
-  points-over lanes places h = go (leb (length (route .chain)) lanes)
+  points-over chainRoom stopsRoom h = go (leb (length (route .chain)) chainRoom)
     where
-      f : leb (length (route .points)) places ≡ false
-      f = let e = count-points in lt-leb (length (route .points)) places (omega arith)
+      f : leb (length (route .points)) stopsRoom ≡ false
+      f = let e = count-points in lt-leb (length (route .points)) stopsRoom (omega arith)
 
-      go : (b : Bool) → refusal 14 ≡ cond (b && leb (length (route .points)) places) route (refusal 14)
+      go : (b : Bool) → refusal 14 ≡ cond (b && leb (length (route .points)) stopsRoom) route (refusal 14)
       go true = ap (λ (y : Bool). cond y route (refusal 14)) (sym f)
       go false = refl
 
   -- both do
-  pub route-fits : (lanes places : ℕ) → length path ≤ lanes → 3 * length (sampleRoute T path s t) ≤ places
-      → followed T s t (found path cost) ≡ fitted lanes places (followed T s t (found path cost))
+  pub route-fits : (chainRoom stopsRoom : ℕ) → length path ≤ chainRoom → 3 * length (sampleRoute T path s t) ≤ stopsRoom
+      → followed T s t (found path cost) ≡ fitted chainRoom stopsRoom (followed T s t (found path cost))
   unfolding fitted route
-  route-fits lanes places h l =
+  route-fits chainRoom stopsRoom h l =
       let e = count-chain in
       let g = count-points in
-      ap₂ (λ (x y : Bool). cond (x && y) route (refusal 14)) (sym (le-leb (length (route .chain)) lanes (omega arith)))
-      (sym (le-leb (length (route .points)) places (omega arith)))
+      ap₂ (λ (x y : Bool). cond (x && y) route (refusal 14)) (sym (le-leb (length (route .chain)) chainRoom (omega arith)))
+      (sym (le-leb (length (route .points)) stopsRoom (omega arith)))
 
   -- the answer's fields
   pub route-answer : (count : ℕ) → count ≡ length (sampleRoute T path s t)
@@ -242,49 +231,50 @@ module _ (T : RouteTables) (path : List ℕ) (cost s t : Float) where
       let c : count ≡ length (flat (sampleRoute T path s t)) / 3 = omega arith in
       ap₂ (λ (k m : ℕ). record { number = 0; lanes = k; points = m; length = cost }) (sym a) c
 
--- ---- which case it is, into lists of `lanes` and of `places` entries
+-- ---- which case it is, into lists with so much room
 
-module _ (T : RouteTables) (n lanes places : ℕ) where
+module _ (T : RouteTables) (n chainRoom stopsRoom : ℕ) where
   -- no path, and a path
-  pub path-refused : (s t : Float) (X : Result Float) → X ≡ refused → refusal 11 ≡ fitted lanes places (followed T s t X)
+  pub path-refused : (s t : Float) (X : Result Float) → X ≡ refused → refusal 11 ≡ fitted chainRoom stopsRoom (followed T s t X)
   unfolding followed
-  path-refused s t X e = refusal-fits lanes places 11 ∙ ap (λ (Y : Result Float). fitted lanes places (followed T s t Y)) (sym e)
+  path-refused s t X e = refusal-fits chainRoom stopsRoom 11 ∙ ap (λ (Y : Result Float). fitted chainRoom stopsRoom (followed T s t Y)) (sym e)
 
   pub path-taken : (s t cost : Float) (path : List ℕ) (X : Result Float) → X ≡ found path cost
-      → fitted lanes places (followed T s t (found path cost)) ≡ fitted lanes places (followed T s t X)
-  path-taken s t cost path X e = ap (λ (Y : Result Float). fitted lanes places (followed T s t Y)) (sym e)
+      → fitted chainRoom stopsRoom (followed T s t (found path cost)) ≡ fitted chainRoom stopsRoom (followed T s t X)
+  path-taken s t cost path X e = ap (λ (Y : Result Float). fitted chainRoom stopsRoom (followed T s t Y)) (sym e)
 
   -- no lane drives, and two lanes
   module _ (from to : Nearest) where
-    pub from-none : from ≡ None → refusal 10 ≡ fitted lanes places (between T n from to)
+    pub from-none : from ≡ None → refusal 10 ≡ fitted chainRoom stopsRoom (between T n from to)
     unfolding between
-    from-none e = refusal-fits lanes places 10 ∙ ap (λ (x : Nearest). fitted lanes places (between T n x to)) (sym e)
+    from-none e = refusal-fits chainRoom stopsRoom 10 ∙ ap (λ (x : Nearest). fitted chainRoom stopsRoom (between T n x to)) (sym e)
 
     module _ (d : Float) (i start : ℕ) (q : Projection) (e : from ≡ Found d i start q) where
-      pub to-none : to ≡ None → refusal 10 ≡ fitted lanes places (between T n from to)
+      pub to-none : to ≡ None → refusal 10 ≡ fitted chainRoom stopsRoom (between T n from to)
       unfolding between
-      to-none f = refusal-fits lanes places 10 ∙ ap₂ (λ (x y : Nearest). fitted lanes places (between T n x y)) (sym e) (sym f)
+      to-none f = refusal-fits chainRoom stopsRoom 10 ∙ ap₂ (λ (x y : Nearest). fitted chainRoom stopsRoom (between T n x y)) (sym e) (sym f)
 
       pub both-found : (c : Float) (j goal : ℕ) (r : Projection) → to ≡ Found c j goal r
-          → fitted lanes places (followed T (q .s) (r .s) (pathOf T n start (q .s) goal (r .s))) ≡ fitted lanes places (between T n from to)
+          → fitted chainRoom stopsRoom (followed T (q .s) (r .s) (pathOf T n start (q .s) goal (r .s)))
+          ≡ fitted chainRoom stopsRoom (between T n from to)
       unfolding between
-      both-found c j goal r f = ap₂ (λ (x y : Nearest). fitted lanes places (between T n x y)) (sym e) (sym f)
+      both-found c j goal r f = ap₂ (λ (x y : Nearest). fitted chainRoom stopsRoom (between T n x y)) (sym e) (sym f)
 
   -- the points are finite, or not
   module _ (ls : List Lane) (from to : Point) (b : Bool) (e : b ≡ finitePoint from && finitePoint to) where
     pub both-near : (x y : Nearest) → b ≡ true → x ≡ told (nearestLane drivesTable ls from) → y ≡ told (nearestLane drivesTable ls to)
-        → fitted lanes places (between T n x y) ≡ fitted lanes places (routed T n ls from to)
+        → fitted chainRoom stopsRoom (between T n x y) ≡ fitted chainRoom stopsRoom (routed T n ls from to)
     unfolding routed
     both-near x y t f g =
-        ap₂ (λ (v w : Nearest). fitted lanes places (between T n v w)) f g
-        ∙ ap (λ (a : Bool). fitted lanes places
+        ap₂ (λ (v w : Nearest). fitted chainRoom stopsRoom (between T n v w)) f g
+        ∙ ap (λ (a : Bool). fitted chainRoom stopsRoom
         (cond a (between T n (told (nearestLane drivesTable ls from)) (told (nearestLane drivesTable ls to))) (refusal 9))) (sym t ∙ e)
 
-    pub not-finite : b ≡ false → refusal 9 ≡ fitted lanes places (routed T n ls from to)
+    pub not-finite : b ≡ false → refusal 9 ≡ fitted chainRoom stopsRoom (routed T n ls from to)
     unfolding routed
     not-finite t =
-        refusal-fits lanes places 9
-        ∙ ap (λ (a : Bool). fitted lanes places
+        refusal-fits chainRoom stopsRoom 9
+        ∙ ap (λ (a : Bool). fitted chainRoom stopsRoom
         (cond a (between T n (told (nearestLane drivesTable ls from)) (told (nearestLane drivesTable ls to))) (refusal 9))) (sym t ∙ e)
 
 -- ---- the rows that are nearest

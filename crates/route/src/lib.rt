@@ -13,14 +13,14 @@ ghost use Rattle.coords.specs.Coords.{finitePoint, zero⁺};
 ghost use Rattle.geometry.specs.Over.{over};
 ghost use Rattle.network.specs.Tables.{lanesFrom};
 ghost use Rattle.rows.specs.Rows.{laneNumber};
-ghost use Rattle.sampling.specs.Kept.{flat};
+ghost use Rattle.sampling.specs.Kept.{firstOf, flat};
 ghost use Rattle.sampling.specs.Passes.{AllLinked, PathRows};
 ghost use Rattle.sampling.specs.Sampling.{routeTables, sampleRoute};
 ghost use Rattle.search.specs.LaneGraph.{Readable, laneGraph, searchedIn};
 ghost use Rattle.search.specs.LaneGraph as graph;
 ghost use Rattle.search.specs.Search.{found};
 ghost use Rattle.route.specs.Route.{Routable, Routes, answerOf, between, fitted, followed, lengthsTo, pathOf, refusal, routed, suffices};
-ghost use Rattle.route.specs.Steps.{AllLong, Counted, RowIn};
+ghost use Rattle.route.specs.Steps.{AllLong, RowIn};
 
 // Document 01's number, 0 for an answer; how many lanes and points stand in the lists, and the length. All else is zero where refused.
 #[repr(C)]
@@ -100,7 +100,8 @@ fn one_lane(start: usize) -> Answer
     }
 }
 
-// Shortest lane path from `start` to `goal`, each a lane and a distance along its centerline.
+// Shortest lane path from `start` to `goal`, each a lane and a distance along its centerline. Only the contract reads `points`, for the tables
+// that the whole route reads.
 fn lane_path(
     lanes: &[usize],
     n: usize,
@@ -138,7 +139,7 @@ fn write_chain(lanes: &[usize], n: usize, path: &[usize], chain: &mut [usize])
     }
 }
 
-// How many points a path has; no more are counted once there are over `room`.
+// How many points a path has; where there are over `room`, one more than that.
 fn count_points(
     lanes: &[usize],
     n: usize,
@@ -153,8 +154,8 @@ fn count_points(
 ) -> usize
     requires { ⌜ PathRows (now path) n × AllLaid (now lanes) n (now points) (now cumulative) × AllLinked (now fans) n (now links)
         × (room < 18446744073709551615) ⌝ }
-    ensures { λ r. ⌜ Counted room (sampleRoute (routeTables (now (lanes .entry)) (now (points .entry)) (now (cumulative .entry))
-        (now (fans .entry)) (now (links .entry))) (now (path .entry)) s t) r ⌝ }
+    ensures { λ r. ⌜ r ≡ length (firstOf (room + 1) (sampleRoute (routeTables (now (lanes .entry)) (now (points .entry)) (now (cumulative .entry))
+        (now (fans .entry)) (now (links .entry))) (now (path .entry)) s t)) ⌝ }
 {
     let mut none = [0.0f32; 1];
     let kept = sampling::sample_route(
@@ -184,15 +185,15 @@ fn write_points(
     path: &[usize],
     s: f32,
     t: f32,
-    places: &mut [f32],
+    stops: &mut [f32],
 )
     requires { ⌜ PathRows (now path) n × AllLaid (now lanes) n (now points) (now cumulative) × AllLinked (now fans) n (now links)
         × (3 * length (sampleRoute (routeTables (now lanes) (now points) (now cumulative) (now fans) (now links)) (now path) s t)
-        ≤ length (now places)) ⌝ }
-    ensures { λ _. ⌜ now (places .exit) ≡ over (flat (sampleRoute (routeTables (now (lanes .entry)) (now (points .entry))
-        (now (cumulative .entry)) (now (fans .entry)) (now (links .entry))) (now (path .entry)) s t)) (now (places .entry)) ⌝ }
+        ≤ length (now stops)) ⌝ }
+    ensures { λ _. ⌜ now (stops .exit) ≡ over (flat (sampleRoute (routeTables (now (lanes .entry)) (now (points .entry))
+        (now (cumulative .entry)) (now (fans .entry)) (now (links .entry))) (now (path .entry)) s t)) (now (stops .entry)) ⌝ }
 {
-    let room = places.len() / 3;
+    let room = stops.len() / 3;
     sampling::sample_route(
         lanes,
         n,
@@ -204,7 +205,7 @@ fn write_points(
         s,
         t,
         room,
-        places,
+        stops,
     );
 }
 
@@ -221,34 +222,23 @@ fn follow(
     s: f32,
     t: f32,
     chain: &mut [usize],
-    places: &mut [f32],
+    stops: &mut [f32],
 ) -> RouteAnswer
     requires { ⌜ PathRows (now path) n × Routable (routeTables (now lanes) (now points) (now cumulative) (now fans) (now links)) n ⌝ }
-    ensures { λ r. ⌜ Routes (fitted (length (now (chain .entry))) (length (now (places .entry))) (followed
+    ensures { λ r. ⌜ Routes (fitted (length (now (chain .entry))) (length (now (stops .entry))) (followed
         (routeTables (now (lanes .entry)) (now (points .entry)) (now (cumulative .entry)) (now (fans .entry)) (now (links .entry))) s t
-        (found (now (path .entry)) cost))) r (now (chain .entry)) (now (chain .exit)) (now (places .entry)) (now (places .exit)) ⌝ }
+        (found (now (path .entry)) cost))) r (now (chain .entry)) (now (chain .exit)) (now (stops .entry)) (now (stops .exit)) ⌝ }
 {
     if chain.len() < path.len() {
         return refused(14);
     }
-    let room = places.len() / 3;
+    let room = stops.len() / 3;
     let count = count_points(lanes, n, points, cumulative, fans, links, path, s, t, room);
     if room < count {
         return refused(14);
     }
     write_chain(lanes, n, path, chain);
-    write_points(
-        lanes,
-        n,
-        points,
-        cumulative,
-        fans,
-        links,
-        path,
-        s,
-        t,
-        places,
-    );
+    write_points(lanes, n, points, cumulative, fans, links, path, s, t, stops);
     RouteAnswer {
         number: 0,
         lanes: path.len(),
@@ -270,13 +260,13 @@ fn travel(
     goal: usize,
     t: f32,
     chain: &mut [usize],
-    places: &mut [f32],
+    stops: &mut [f32],
 ) -> RouteAnswer
     requires { ⌜ (start < n) × (goal < n) × Routable (routeTables (now lanes) (now points) (now cumulative) (now fans) (now links)) n ⌝ }
-    ensures { λ r. ⌜ Routes (fitted (length (now (chain .entry))) (length (now (places .entry)))
+    ensures { λ r. ⌜ Routes (fitted (length (now (chain .entry))) (length (now (stops .entry)))
         (followed (routeTables (now (lanes .entry)) (now (points .entry)) (now (cumulative .entry)) (now (fans .entry)) (now (links .entry))) s t
         (pathOf (routeTables (now (lanes .entry)) (now (points .entry)) (now (cumulative .entry)) (now (fans .entry)) (now (links .entry)))
-        n start s goal t))) r (now (chain .entry)) (now (chain .exit)) (now (places .entry)) (now (places .exit)) ⌝ }
+        n start s goal t))) r (now (chain .entry)) (now (chain .exit)) (now (stops .entry)) (now (stops .exit)) ⌝ }
 {
     let a = lane_path(lanes, n, points, cumulative, fans, links, start, s, goal, t);
     if !a.ok {
@@ -297,7 +287,7 @@ fn travel(
         s,
         t,
         chain,
-        places,
+        stops,
     )
 }
 
@@ -312,11 +302,12 @@ fn between(
     from: Nearest,
     to: Nearest,
     chain: &mut [usize],
-    places: &mut [f32],
+    stops: &mut [f32],
 ) -> RouteAnswer
     requires { ⌜ RowIn n from × RowIn n to × Routable (routeTables (now lanes) (now points) (now cumulative) (now fans) (now links)) n ⌝ }
-    ensures { λ r. ⌜ Routes (fitted (length (now (chain .entry))) (length (now (places .entry)))
-        (between (routeTables (now (lanes .entry)) (now (points .entry)) (now (cumulative .entry)) (now (fans .entry)) (now (links .entry))) n from to)) r (now (chain .entry)) (now (chain .exit)) (now (places .entry)) (now (places .exit)) ⌝ }
+    ensures { λ r. ⌜ Routes (fitted (length (now (chain .entry))) (length (now (stops .entry)))
+        (between (routeTables (now (lanes .entry)) (now (points .entry)) (now (cumulative .entry)) (now (fans .entry)) (now (links .entry)))
+        n from to)) r (now (chain .entry)) (now (chain .exit)) (now (stops .entry)) (now (stops .exit)) ⌝ }
 {
     let Nearest::Found(_, _, start, p) = from else {
         return refused(10);
@@ -338,7 +329,7 @@ fn between(
         goal,
         t,
         chain,
-        places,
+        stops,
     )
 }
 
@@ -351,7 +342,7 @@ fn both_finite(from: Point, to: Point) -> bool
     false
 }
 
-// A route from one point to another over the n lanes of the tables: the numbers of its lanes in `chain`, x y z of its points in `places`.
+// A route from one point to another over the n lanes of the tables: the numbers of its lanes in `chain`, x y z of its points in `stops`.
 pub fn route(
     from: Point,
     to: Point,
@@ -362,12 +353,13 @@ pub fn route(
     fans: &[usize],
     links: &[usize],
     chain: &mut [usize],
-    places: &mut [f32],
+    stops: &mut [f32],
 ) -> RouteAnswer
     requires { ⌜ Routable (routeTables (now lanes) (now points) (now cumulative) (now fans) (now links)) n ⌝ }
-    ensures { λ r. ⌜ Routes (fitted (length (now (chain .entry))) (length (now (places .entry)))
+    ensures { λ r. ⌜ Routes (fitted (length (now (chain .entry))) (length (now (stops .entry)))
         (routed (routeTables (now (lanes .entry)) (now (points .entry)) (now (cumulative .entry)) (now (fans .entry)) (now (links .entry)))
-        n (lanesFrom (now (lanes .entry)) (now (points .entry)) n 0) from to)) r (now (chain .entry)) (now (chain .exit)) (now (places .entry)) (now (places .exit)) ⌝ }
+        n (lanesFrom (now (lanes .entry)) (now (points .entry)) n 0) from to))
+        r (now (chain .entry)) (now (chain .exit)) (now (stops .entry)) (now (stops .exit)) ⌝ }
 {
     if both_finite(from, to) {
         let pair = nearest::nearest_rows(lanes, n, points, cumulative, from, to);
@@ -383,7 +375,7 @@ pub fn route(
             a,
             b,
             chain,
-            places,
+            stops,
         );
     }
     refused(9)

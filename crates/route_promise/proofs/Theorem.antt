@@ -30,15 +30,17 @@ use Rattle.plan_format.specs.Plan.{Plan, laneOf, numberOf}
 use Rattle.plan_format.specs.Records as records
 use Rattle.plan_format.specs.Tables.{planRows}
 use Rattle.rows.specs.Rows.{directionOf, laneNumber}
+use Rattle.route.specs.InPlan.{lengths-are}
 use Rattle.route.specs.Route.{Routed, between, fitted, followed, pathBy, refusal, routeIn, routed, suffices, tablesOf}
+use Rattle.route.specs.Steps.{refusal-fits}
 use Rattle.sampling.specs.Sampling.{isAhead}
 use Rattle.search.specs.LaneGraph.{laneGraph, searchedIn}
 use Rattle.search.specs.Search as search
 use Rattle.tables.specs.LaneTables.{noLane}
 use Rattle.tables.specs.Lines.{direction-is, number-is}
-use Rattle.route_promise.specs.Promise.{Fits, LeastChain, OneDrives, Promised, Reachable, RoutePromise, Unreachable, chains}
+use Rattle.route_promise.specs.Promise.{Fits, LeastChain, OneDrives, Promised, Reachable, RoutePromise, Unreachable, isChainBetween}
 use Rattle.route_promise.specs.Promise.{directionIn, oneLane, wholeRoute}
-use Rattle.route_promise.proofs.Lanes.{InRow, in-row, lengths-are, some-or-none}
+use Rattle.route_promise.proofs.Lanes.{InRow, in-row, some-or-none}
 
 -- ---- the lists: the whole route where it fits, 14 where it does not
 abbrev fit : ℕ → ℕ → Routed → Bool
@@ -57,10 +59,6 @@ fitted-whole lanes floats w e = rw e refl
 fitted-not : (lanes floats : ℕ) (w : Routed) → fit lanes floats w ≡ false → fitted lanes floats w ≡ refusal 14
 unfolding fitted
 fitted-not lanes floats w e = rw e refl
-
--- a refusal has empty lists, which always fit
-refusal-fits : (lanes floats n : ℕ) → fitted lanes floats (refusal n) ≡ refusal n
-refusal-fits lanes floats n = fitted-whole lanes floats (refusal n) (fit-is lanes floats (refusal n) (omega arith, omega arith))
 
 module _ (p : Plan) (from to : Point) (lanes floats : ℕ) (a b : NearestAnswer) (w : Routed) where
   abbrev Promise : Routed → Type 0
@@ -265,15 +263,15 @@ module _ (p : Plan) (A : Accepted p) where
       by-search e search.refused o =
           promise-unreachable p from to lanes floats a b (refusal 11) d chosen
           (e, λ chain. rw (number-row (S .lane) start-row, number-row (Z .lane) goal-row) (o .refused refl chain))
-          (fitted lanes floats (refusal 11)) (refusal-fits lanes floats 11)
+          (fitted lanes floats (refusal 11)) (sym (refusal-fits lanes floats 11))
       by-search e (search.found path cost) o =
           let chain = map (laneNumber (planRows p .lanes)) path in
-          let is : chains p a b chain ≡ true = rw (number-row (S .lane) start-row, number-row (Z .lane) goal-row) (o .is-chain refl) in
+          let is : isChainBetween p a b chain ≡ true = rw (number-row (S .lane) start-row, number-row (Z .lane) goal-row) (o .is-chain refl) in
           promise-route p from to lanes floats a b (follow (search.found path cost)) d chosen (inr (chain, is)) refl
           (λ h. absurd (true≢false (sym h ∙ e)))
           (λ h. (record { is-chain = is; least = least }, o .cost-is refl))
         where
-          least : (other : List ℕ) → chains p a b other ≡ true
+          least : (other : List ℕ) → isChainBetween p a b other ≡ true
               → le (chainCostIn p (map (laneNumber (planRows p .lanes)) path)) (chainCostIn p other) ≡ true
           least other h =
               rw (← o .cost-is refl)
@@ -304,7 +302,7 @@ module _ (p : Plan) (A : Accepted p) where
         rw (f .is, t .is) (by-answers from to F G (f .answered) (t .answered) lanes floats d (f, t))
     by-drives (inr none) =
         promise-none p from to lanes floats (nearestIn p from) (nearestIn p to) (wholeRoute p from to) none (routeIn p from to lanes floats)
-        (ap (fitted lanes floats) (no-lane none) ∙ refusal-fits lanes floats 10)
+        (ap (fitted lanes floats) (no-lane none) ∙ sym (refusal-fits lanes floats 10))
 
     promised : Goal
     promised = by-drives (some-or-none drivesTable (lanesOf p))

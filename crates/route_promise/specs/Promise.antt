@@ -42,20 +42,20 @@ abbrev pub oneLane : Plan → NearestAnswer → NearestAnswer → Bool
 oneLane p a b = eqb (a .lane .0) (b .lane .0) && isAhead (directionIn p (a .lane .0)) (a .projection .s) (b .projection .s)
 
 -- ---- the reader's chains from the one chosen lane to the other
-abbrev pub chains : Plan → NearestAnswer → NearestAnswer → List ℕ → Bool
-chains p a b chain = isChain (p .links) (a .lane .0) (b .lane .0) chain
+abbrev pub isChainBetween : Plan → NearestAnswer → NearestAnswer → List ℕ → Bool
+isChainBetween p a b chain = isChain (p .links) (a .lane .0) (b .lane .0) chain
 
 -- a chain the reader could put forward, and every other such chain has at least its f32 cost
 pub record LeastChain (p : Plan) (a b : NearestAnswer) (chain : List ℕ) : Type 0 where
-  pub is-chain : chains p a b chain ≡ true
-  pub least : (other : List ℕ) → chains p a b other ≡ true → le (chainCostIn p chain) (chainCostIn p other) ≡ true
+  pub is-chain : isChainBetween p a b chain ≡ true
+  pub least : (other : List ℕ) → isChainBetween p a b other ≡ true → le (chainCostIn p chain) (chainCostIn p other) ≡ true
 
 -- one lane suffices, or there is a chain; neither
 abbrev pub Reachable : Plan → NearestAnswer → NearestAnswer → Type 0
-Reachable p a b = (oneLane p a b ≡ true) ⊎ ((chain : List ℕ) × (chains p a b chain ≡ true))
+Reachable p a b = (oneLane p a b ≡ true) ⊎ ((chain : List ℕ) × (isChainBetween p a b chain ≡ true))
 
 abbrev pub Unreachable : Plan → NearestAnswer → NearestAnswer → Type 0
-Unreachable p a b = (oneLane p a b ≡ false) × ((chain : List ℕ) → chains p a b chain ≡ false)
+Unreachable p a b = (oneLane p a b ≡ false) × ((chain : List ℕ) → isChainBetween p a b chain ≡ false)
 
 -- ---- the route as module 6 and the order of the search give it, whatever room it takes
 abbrev pub wholeRoute : Plan → Point → Point → Routed

@@ -1,10 +1,10 @@
 -- route.rs, `push_dedup`: the points that are kept, and how they stand in a flat list. Definitions only.
 use mathlib.Core.Bool.{Bool, cond, true}
 use mathlib.Core.List.{List, [], _++_, _∷_}
-use Prim.Native.Nat.{ℕ, _*_, _+_, _/_}
+use Prim.Native.Nat.{ℕ, _*_, _+_, _-_, _/_}
 use lib.Dec.{ltb}
 use lib.Ieee.{Float, lt}
-use lib.ListN.{length, set}
+use lib.ListN.{drop, length, set}
 use Rattle.coords.specs.Coords.{distanceSquaredTo, zero⁺}
 use Rattle.coords.specs.declared.Point.{Point}
 use Rattle.geometry.specs.Locate.{micro}
@@ -14,6 +14,10 @@ use Rattle.sampling.specs.declared.Kept.{Kept}
 unfoldable pub pushed : List Point → Point → List Point
 pushed [] p = p ∷ []
 pushed (q ∷ qs) p = cond (lt micro (distanceSquaredTo q p)) (p ∷ q ∷ qs) (q ∷ qs)
+
+-- the first n of them
+unfoldable pub firstOf : ℕ → List Point → List Point
+firstOf n ps = drop (length ps - n) ps
 
 -- x y z of each, from the first on
 unfoldable pub flat : List Point → List Float

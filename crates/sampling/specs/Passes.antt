@@ -1,7 +1,6 @@
 -- What a pass over a path's samples gives that stops once more than `room` points are kept, and laws of its loops.
 use mathlib.Core.Bool.{Bool, cond, false, true, _||_}
-use mathlib.Core.List.{List, [], _++_, _∷_}
-use mathlib.Core.Logic.{inl, inr, ⊎-elim, _⊎_}
+use mathlib.Core.List.{List, [], append-assoc, _++_, _∷_}
 use mathlib.Core.Path.{ap, ap₂, refl, subst, sym, _∙_, _≡_}
 use native.Mathlib.Nat.{not-suc-le-zero}
 use Prim.Native.Nat.{suc, zero, ℕ, _*_, _+_, _-_, _/_, _<_, _≤_}
@@ -10,15 +9,15 @@ use native.Mathlib.Omega.{arith}
 use borrow.Author.Tests.{eq-eqb, lt-ltb, ne-eqb}
 use lib.Dec.{eqb, ltb}
 use lib.Ieee.{Float, binary32, lt, sub}
-use lib.ListN.{drop, drop-of-length-le, getD, length, length-append, length-set}
-use lib.Seq.{drop-cons}
+use lib.ListN.{drop, drop-of-length-le, getD, length, length-append, length-drop, length-set}
+use lib.Seq.{drop-append-add, drop-cons}
 use Rattle.coords.specs.Coords.{distanceSquaredTo}
 use Rattle.coords.specs.declared.Point.{Point}
 use Rattle.float.specs.Sign.{absOf}
 use Rattle.geometry.specs.Locate.{micro, pointAlong}
 use Rattle.geometry.specs.Over.{over, over-three}
 use Rattle.rows.specs.Rows.{firstNeighbour, leadsTo, neighbours}
-use Rattle.sampling.specs.Kept.{flat, isFresh, keptOf, laid, lastOf, pushed, pushing, putAt, putting, withPoint}
+use Rattle.sampling.specs.Kept.{firstOf, flat, isFresh, keptOf, laid, pushed, pushing, putAt, putting, withPoint}
 use Rattle.sampling.specs.Sampling.{RouteTables, entryAfter, entryFirst, exitAt, exitFor, leads, placeIn}
 use Rattle.sampling.specs.Sampling.{sampleAt, sampleFrom, sampleLanes, sampleRoute, sampleSegment, sampleSpan}
 use Rattle.sampling.specs.Sampling.{stepsOf, tiny}
@@ -40,13 +39,11 @@ pub record PathRows (path : List ℕ) (n : ℕ) : Type 0 where
   pub few : length path ≤ 257
   pub each : (k : ℕ) → k < length path → getD path k 0 < n
 
--- ---- what a pass gives: all the points, or more than there is room for
+-- ---- what a pass gives: the points up to the first past the room
 
 pub record Sampled (room : ℕ) (all : List Point) (old : List Float) (r : Kept) (out : List Float) : Type 0 where
-  pub points : List Point
-  pub kept : r ≡ keptOf points
-  pub written : out ≡ laid points old
-  pub reached : (points ≡ all) ⊎ ((room < length points) × (length points ≤ length all))
+  pub kept : r ≡ keptOf (firstOf (room + 1) all)
+  pub written : out ≡ laid (firstOf (room + 1) all) old
 
 -- after points that are kept and written
 abbrev pub SegmentSampled : List Float → List Float → Float → Float → ℕ → Kept → List Float → Kept → List Float → Type 0
@@ -57,6 +54,51 @@ SegmentSampled ps cs entry exit room kept out r out′ =
 pub sampled-as : (room : ℕ) (all all′ : List Point) (old : List Float) (r : Kept) (out : List Float) → all ≡ all′
     → Sampled room all old r out → Sampled room all′ old r out
 sampled-as room all all′ old r out e S = subst (λ (a : List Point). Sampled room a old r out) e S
+
+-- ---- the first points
+
+-- no more than n
+pub first-all : (n : ℕ) (ps : List Point) → length ps ≤ n → firstOf n ps ≡ ps
+unfolding firstOf
+first-all n ps h = let z : length ps - n ≡ 0 = omega arith in ap (λ (k : ℕ). drop k ps) z
+
+pub length-first : (n : ℕ) (ps : List Point) → length (firstOf n ps) ≡ length ps - (length ps - n)
+unfolding firstOf
+length-first n ps = length-drop (length ps - n) ps
+
+-- the points are qs, and then more
+record Front (qs all : List Point) : Type 0 where
+  more : List Point
+  split : all ≡ more ++ qs
+
+-- the first n of qs are the first n of all
+first-front : (n : ℕ) (qs all : List Point) → Front qs all → n ≤ length qs → firstOf n all ≡ firstOf n qs
+unfolding firstOf
+first-front n qs all F h =
+    let l = length-append (F .more) qs in
+    let e : length (F .more ++ qs) - n ≡ length (F .more) + (length qs - n) = omega arith in
+    ap (λ (ps : List Point). drop (length ps - n) ps) (F .split)
+    ∙ ap (λ (k : ℕ). drop k (F .more ++ qs)) e
+    ∙ drop-append-add (F .more) qs (length qs - n)
+
+front-on : (ps qs all : List Point) → Front ps qs → Front qs all → Front ps all
+front-on ps qs all F G =
+    record {
+      more = G .more ++ F .more;
+      split = G .split ∙ ap (λ (rs : List Point). G .more ++ rs) (F .split) ∙ sym (append-assoc (G .more) (F .more) ps);
+    }
+
+-- the points qs, which a pass has kept and written: all of them, or one more than there is room for
+module _ (room : ℕ) (qs all : List Point) (old : List Float) (r : Kept) (out : List Float) (k : r ≡ keptOf qs) (w : out ≡ laid qs old)
+    (few : length qs ≤ room + 1) where
+  sampled-by : firstOf (room + 1) all ≡ qs → Sampled room all old r out
+  sampled-by e = record { kept = k ∙ ap keptOf (sym e); written = w ∙ ap (λ (ps : List Point). laid ps old) (sym e) }
+
+  sampled-all : qs ≡ all → Sampled room all old r out
+  sampled-all e = sampled-by (ap (firstOf (room + 1)) (sym e) ∙ first-all (room + 1) qs few)
+
+  sampled-front : Front qs all → room < length qs → Sampled room all old r out
+  sampled-front F h = sampled-by (first-front (room + 1) qs all F (omega arith) ∙ first-all (room + 1) qs few)
 
 -- ---- `push_dedup`
 
@@ -127,24 +169,32 @@ pushed-laid (q ∷ qs) p old =
 
 -- ---- `sample_segment`
 
--- no point is lost
-pub pushed-long : (qs : List Point) (p : Point) → length qs ≤ length (pushed qs p)
+-- a point is added, or none
+pushed-front : (qs : List Point) (p : Point) → Front qs (pushed qs p)
 unfolding pushed
-pushed-long [] p = omega arith
-pushed-long (q ∷ qs) p = go (lt micro (distanceSquaredTo q p))
+pushed-front [] p = record { more = p ∷ []; split = refl }
+pushed-front (q ∷ qs) p = go (lt micro (distanceSquaredTo q p))
   where
-    go : (b : Bool) → length (q ∷ qs) ≤ length (cond b (p ∷ q ∷ qs) (q ∷ qs))
+    go : (b : Bool) → Front (q ∷ qs) (cond b (p ∷ q ∷ qs) (q ∷ qs))
+    go true = record { more = p ∷ []; split = refl }
+    go false = record { more = []; split = refl }
+
+pushed-few : (qs : List Point) (p : Point) → length (pushed qs p) ≤ length qs + 1
+unfolding pushed
+pushed-few [] p = omega arith
+pushed-few (q ∷ qs) p = go (lt micro (distanceSquaredTo q p))
+  where
+    go : (b : Bool) → length (cond b (p ∷ q ∷ qs) (q ∷ qs)) ≤ length (q ∷ qs) + 1
     go true = omega arith
     go false = omega arith
 
 module _ (place : Float → Point) (entry span : Float) (steps : ℕ) where
-  pub from-long : (n k : ℕ) (qs : List Point) → length qs ≤ length (sampleFrom place entry span steps n k qs)
+  from-front : (n k : ℕ) (qs : List Point) → Front qs (sampleFrom place entry span steps n k qs)
   unfolding sampleFrom
-  from-long zero k qs = omega arith
-  from-long (suc n) k qs =
-      let a = pushed-long qs (place (sampleAt entry span steps k)) in
-      let b = from-long n (k + 1) (pushed qs (place (sampleAt entry span steps k))) in
-      omega arith
+  from-front zero k qs = record { more = []; split = refl }
+  from-front (suc n) k qs =
+      let p = place (sampleAt entry span steps k) in
+      front-on qs (pushed qs p) _ (pushed-front qs p) (from-front n (k + 1) (pushed qs p))
 
   pub from-last : (k : ℕ) (qs : List Point) → sampleFrom place entry span steps 1 k qs ≡ pushed qs (place (sampleAt entry span steps k))
   unfolding sampleFrom
@@ -190,32 +240,32 @@ module _ (place : Float → Point) (entry span : Float) (steps k : ℕ) (all : L
         rest = rw n at (sym (from-next place entry span steps (steps - k) k (S .points)) ∙ S .rest);
       }
 
-  -- more than there is room for
-  pub sampling-stops : (room : ℕ) → room < r′ .count → Sampled room all old r′ out′
+  -- one more than there is room for
+  pub sampling-stops : (room : ℕ) → r .count ≤ room → room < r′ .count → Sampled room all old r′ out′
   unfolding p
-  sampling-stops room h =
+  sampling-stops room few h =
+      let c = ap (λ (q : Kept). q .count) (S .kept) in
       let n = ap (λ (q : Kept). q .count) kept-next in
-      let l = from-long place entry span steps (steps - k) (k + 1) (pushed (S .points) p) in
+      let l = pushed-few (S .points) p in
       let same = sym (from-next place entry span steps (steps - k) k (S .points)) ∙ S .rest in
-      let m = rw same at l in
-      record { points = pushed (S .points) p; kept = kept-next; written = written-next; reached = inr (omega arith, m) }
+      let F = subst (λ (ps : List Point). Front (pushed (S .points) p) ps) same (from-front place entry span steps (steps - k) (k + 1) _) in
+      sampled-front room (pushed (S .points) p) all old r′ out′ kept-next written-next (omega arith) F (omega arith)
 
 -- the last sample
 pub sampling-ends : (place : Float → Point) (entry span : Float) (steps k : ℕ) (all : List Point) (old : List Float) (r : Kept)
     (out : List Float) (r′ : Kept) (out′ : List Float) → Sampling place entry span steps k all old r out → k ≡ steps
     → r′ ≡ pushing r (place (sampleAt entry span steps steps)) → out′ ≡ putting r (place (sampleAt entry span steps steps)) out
-    → (room : ℕ) → Sampled room all old r′ out′
-sampling-ends place entry span steps k all old r out r′ out′ S h e f room =
+    → (room : ℕ) → r .count ≤ room → Sampled room all old r′ out′
+sampling-ends place entry span steps k all old r out r′ out′ S h e f room few =
     let p = place (sampleAt entry span steps steps) in
     let n : suc (steps - k) ≡ 1 = omega arith in
     let same : sampleFrom place entry span steps 1 steps (S .points) ≡ all
     = ap₂ (λ (m j : ℕ). sampleFrom place entry span steps m j (S .points)) (sym n) (sym h) ∙ S .rest in
-    record {
-      points = pushed (S .points) p;
-      kept = e ∙ ap (λ (q : Kept). pushing q p) (S .kept) ∙ pushed-kept (S .points) p;
-      written = f ∙ ap₂ (λ (q : Kept) (o : List Float). putting q p o) (S .kept) (S .written) ∙ pushed-laid (S .points) p old;
-      reached = inl (sym (from-last place entry span steps steps (S .points)) ∙ same);
-    }
+    let c = ap (λ (q : Kept). q .count) (S .kept) in
+    let l = pushed-few (S .points) p in
+    sampled-all room (pushed (S .points) p) all old r′ out′ (e ∙ ap (λ (q : Kept). pushing q p) (S .kept) ∙ pushed-kept (S .points) p)
+    (f ∙ ap₂ (λ (q : Kept) (o : List Float). putting q p o) (S .kept) (S .written) ∙ pushed-laid (S .points) p old) (omega arith)
+    (sym (from-last place entry span steps steps (S .points)) ∙ same)
 
 -- before the first sample
 pub sampling-starts : (place : Float → Point) (entry span : Float) (steps : ℕ) (qs : List Point) (old : List Float) (r : Kept)
@@ -236,17 +286,15 @@ module _ (place : Float → Point) (entry exit a : Float) (e : a ≡ absOf (sub 
 
   -- a point alone
   pub segment-point : (room : ℕ) (p : Point) (old : List Float) (kept r : Kept) (out out′ : List Float) → lt a tiny ≡ true → p ≡ place entry
-      → kept ≡ keptOf qs → out ≡ laid qs old → r ≡ pushing kept p → out′ ≡ putting kept p out
+      → kept ≡ keptOf qs → out ≡ laid qs old → r ≡ pushing kept p → out′ ≡ putting kept p out → kept .count ≤ room
       → Sampled room (sampleSegment place entry exit qs) old r out′
   unfolding sampleSpan
-  segment-point room p old kept r out out′ t g k w f h =
-      record {
-        points = pushed qs p;
-        kept = f ∙ ap (λ (q : Kept). pushing q p) k ∙ pushed-kept qs p;
-        written = h ∙ ap₂ (λ (q : Kept) (o : List Float). putting q p o) k w ∙ pushed-laid qs p old;
-        reached = inl
-            (ap (pushed qs) g ∙ ap (λ (b : Bool). sampleSpan b place entry (sub binary32 exit entry) qs) (sym t ∙ ap (λ (x : Float). lt x tiny) e));
-      }
+  segment-point room p old kept r out out′ t g k w f h few =
+      let c = ap (λ (q : Kept). q .count) k in
+      let l = pushed-few qs p in
+      sampled-all room (pushed qs p) _ old r out′ (f ∙ ap (λ (q : Kept). pushing q p) k ∙ pushed-kept qs p)
+      (h ∙ ap₂ (λ (q : Kept) (o : List Float). putting q p o) k w ∙ pushed-laid qs p old) (omega arith)
+      (ap (pushed qs) g ∙ ap (λ (b : Bool). sampleSpan b place entry (sub binary32 exit entry) qs) (sym t ∙ ap (λ (x : Float). lt x tiny) e))
 
 -- ---- `leads`
 
@@ -277,26 +325,25 @@ module _ (links : List ℕ) (lane : ℕ) where
 
 -- ---- `sample_route`
 
-segment-long : (place : Float → Point) (entry exit : Float) (qs : List Point) → length qs ≤ length (sampleSegment place entry exit qs)
+segment-front : (place : Float → Point) (entry exit : Float) (qs : List Point) → Front qs (sampleSegment place entry exit qs)
 unfolding sampleSpan
-segment-long place entry exit qs = go (lt (absOf span) tiny)
+segment-front place entry exit qs = go (lt (absOf span) tiny)
   where
     span : Float
     span = sub binary32 exit entry
 
-    go : (b : Bool) → length qs ≤ length (sampleSpan b place entry span qs)
-    go true = pushed-long qs (place entry)
-    go false = from-long place entry span (stepsOf span) (stepsOf span + 1) 0 qs
+    go : (b : Bool) → Front qs (sampleSpan b place entry span qs)
+    go true = pushed-front qs (place entry)
+    go false = from-front place entry span (stepsOf span) (stepsOf span + 1) 0 qs
 
 module _ (T : RouteTables) (goal : Float) where
-  lanes-long : (rest : List ℕ) (i : ℕ) (entry : Float) (qs : List Point) → length qs ≤ length (sampleLanes T goal i entry rest qs)
+  lanes-front : (rest : List ℕ) (i : ℕ) (entry : Float) (qs : List Point) → Front qs (sampleLanes T goal i entry rest qs)
   unfolding sampleLanes
-  lanes-long [] i entry qs = segment-long (placeIn T i) entry (exitAt (T .lanes) (T .cumulative) i entry goal) qs
-  lanes-long (next ∷ rest) i entry qs =
+  lanes-front [] i entry qs = segment-front (placeIn T i) entry (exitAt (T .lanes) (T .cumulative) i entry goal) qs
+  lanes-front (next ∷ rest) i entry qs =
       let exit = exitFor T i next entry in
-      let a = segment-long (placeIn T i) entry exit qs in
-      let b = lanes-long rest next (entryAfter T i exit next) (sampleSegment (placeIn T i) entry exit qs) in
-      omega arith
+      front-on qs (sampleSegment (placeIn T i) entry exit qs) _ (segment-front (placeIn T i) entry exit qs)
+      (lanes-front rest next (entryAfter T i exit next) (sampleSegment (placeIn T i) entry exit qs))
 
   -- where the loop stands before lane k of the path, on lane i, which is entered at `entry`: the points so far, of which the lanes left make all
   pub record Routing (path : List ℕ) (n : ℕ) (all : List Point) (old : List Float) (room k i : ℕ) (entry : Float) (r : Kept)
@@ -326,9 +373,12 @@ module _ (T : RouteTables) (goal : Float) where
   module _ (path : List ℕ) (n : ℕ) (all : List Point) (old : List Float) (room k i : ℕ) (entry : Float) (r : Kept) (out : List Float)
       (R : Routing path n all old room k i entry r out) (exit : Float) (r′ : Kept) (out′ : List Float)
       (S : Sampled room (sampleSegment (placeIn T i) entry exit (R .points)) old r′ out′) where
+    abbrev segment : List Point
+    segment = sampleSegment (placeIn T i) entry exit (R .points)
+
     -- over to the lane `next`
     module _ (next : ℕ) (h : k < length path) (e : next ≡ getD path k 0) (f : exit ≡ exitFor T i next entry) where
-      onward : sampleLanes T goal next (entryAfter T i exit next) (drop (k + 1) path) (sampleSegment (placeIn T i) entry exit (R .points)) ≡ all
+      onward : sampleLanes T goal next (entryAfter T i exit next) (drop (k + 1) path) segment ≡ all
       unfolding sampleLanes
       onward =
           let Q : Float → List ℕ → List Point = λ (x : Float) (rest : List ℕ).
@@ -338,39 +388,30 @@ module _ (T : RouteTables) (goal : Float) where
           ∙ ap (λ (l : List ℕ). sampleLanes T goal i entry l (R .points)) (sym split)
           ∙ R .rest
 
+      -- how many points of the lane are kept
+      count : r′ .count ≡ length segment - (length segment - (room + 1))
+      count = ap (λ (q : Kept). q .count) (S .kept) ∙ length-first (room + 1) segment
+
       pub routing-next : PathRows path n → (entry′ : Float) → r′ .count ≤ room → entry′ ≡ entryAfter T i exit next
           → Routing path n all old room (k + 1) next entry′ r′ out′
-      routing-next P entry′ few g = go (S .reached)
-        where
-          c : r′ .count ≡ length (S .points)
-          c = ap (λ (q : Kept). q .count) (S .kept)
-
-          go : (S .points ≡ sampleSegment (placeIn T i) entry exit (R .points))
-              ⊎ ((room < length (S .points)) × (length (S .points) ≤ length (sampleSegment (placeIn T i) entry exit (R .points))))
-              → Routing path n all old room (k + 1) next entry′ r′ out′
-          go (inl w) =
-              record {
-                points = S .points;
-                kept = S .kept;
-                written = S .written;
-                few = few;
-                lane = subst (λ (x : ℕ). x < n) (sym e) (P .each k h);
-                rest = ap₂ (λ (s : Float) (qs : List Point). sampleLanes T goal next s (drop (k + 1) path) qs) g w ∙ onward;
-              }
-          go (inr w) = absurd (omega (arith, w .0, c, few))
+      routing-next P entry′ few g =
+          let c = count in
+          let whole = first-all (room + 1) segment (omega arith) in
+          record {
+            points = segment;
+            kept = S .kept ∙ ap keptOf whole;
+            written = S .written ∙ ap (λ (ps : List Point). laid ps old) whole;
+            few = few;
+            lane = subst (λ (x : ℕ). x < n) (sym e) (P .each k h);
+            rest = ap (λ (s : Float). sampleLanes T goal next s (drop (k + 1) path) segment) g ∙ onward;
+          }
 
       pub routing-stops : room < r′ .count → Sampled room all old r′ out′
-      routing-stops h =
-          let c : r′ .count ≡ length (S .points) = ap (λ (q : Kept). q .count) (S .kept) in
-          let l = lanes-long (drop (k + 1) path) next (entryAfter T i exit next) (sampleSegment (placeIn T i) entry exit (R .points)) in
-          let m : length (sampleSegment (placeIn T i) entry exit (R .points)) ≤ length all
-          = subst (λ (qs : List Point). length (sampleSegment (placeIn T i) entry exit (R .points)) ≤ length qs) onward l in
-          record {
-            points = S .points;
-            kept = S .kept;
-            written = S .written;
-            reached = inr (omega arith, ⊎-elim (λ w. subst (λ (qs : List Point). length qs ≤ length all) (sym w) m) (λ w. omega arith) (S .reached));
-          }
+      routing-stops o =
+          let c = count in
+          let F = subst (λ (ps : List Point). Front segment ps) onward (lanes-front (drop (k + 1) path) next (entryAfter T i exit next) segment) in
+          let first = first-front (room + 1) segment all F (omega arith) in
+          record { kept = S .kept ∙ ap keptOf (sym first); written = S .written ∙ ap (λ (ps : List Point). laid ps old) (sym first) }
 
     -- the last lane
     pub routing-ends : length path ≤ k → exit ≡ exitAt (T .lanes) (T .cumulative) i entry goal → Sampled room all old r′ out′

@@ -1,18 +1,17 @@
 -- route.rs, `sample_route` and what it calls: the points of a path of lanes, over the plan's rows. A lane is its row. Definitions only.
 use mathlib.Core.Bool.{Bool, cond, false, not, true, _&&_, _||_}
 use mathlib.Core.List.{List, [], _∷_}
-use Prim.Native.Nat.{suc, zero, ℕ, _+_, _-_}
+use Prim.Native.Nat.{suc, zero, ℕ, _+_}
 use lib.Dec.{eqb}
 use lib.Ieee.{Float, add, binary32, div, le, lt, mul, ofBits, ofInt, sub, toUnsigned}
 use lib.IntN.{pos}
-use lib.ListN.{length}
-use Rattle.coords.specs.Coords.{lengthSquared, one⁺, subOf, zero⁺}
+use Rattle.branches.specs.Branches.{awayFrom, headOf, tailOf}
+use Rattle.coords.specs.Coords.{one⁺, zero⁺}
 use Rattle.coords.specs.declared.Point.{Point}
 use Rattle.float.specs.Choose.{clampOf, maxOf, minOf}
 use Rattle.float.specs.Sign.{absOf, signumOf}
 use Rattle.float.specs.Whole.{ceilOf}
 use Rattle.geometry.specs.Locate.{pointAlong}
-use Rattle.geometry.specs.Polyline.{pointAt}
 use Rattle.geometry.specs.Project.{projectOf}
 use Rattle.rows.specs.Rows.{arcsOf, directionOf, firstLink, firstNeighbour, leadsTo, lengthOf, neighbours, pointsOf, successors}
 use Rattle.sampling.specs.Kept.{pushed}
@@ -43,14 +42,14 @@ changeDistance = ofBits binary32 0x41200000
 unfoldable pub isAhead : ℕ → Float → Float → Bool
 isAhead direction from to = cond (eqb direction 0) (le from to) (cond (eqb direction 1) (le to from) true)
 
--- `advance`: `dist` on from `from` toward `toward`, not past it
+-- `advance`: the arc length `dist` on from the arc length `from`, up or down toward the arc length `to`, and never past that
 unfoldable pub toward : Float → Float → Float → Float
 toward from to dist =
     clampOf (add binary32 from (mul binary32 (signumOf (sub binary32 to from)) dist)) (minOf from to) (maxOf from to)
 
 -- ---- samples of one lane
 
--- how many steps a span takes: at most 2 m each, and at least one
+-- how many steps a span takes: at most 2 m each (`spaced` in Spacing.antt), and at least one
 unfoldable pub stepsOf : Float → ℕ
 stepsOf span = toUnsigned 64 (maxOf (ceilOf (div binary32 (absOf span) routeStep)) one⁺)
 
@@ -93,20 +92,10 @@ module _ (lanes : List ℕ) (points cumulative : List Float) where
   abbrev pub entryOn : ℕ → Point → Float
   entryOn i p = projectOf (pointsOf lanes points i) (arcsOf lanes cumulative i) p .s
 
-  -- the first and the last point of lane i
-  abbrev pub firstOn : ℕ → Point
-  firstOn i = pointAt (pointsOf lanes points i) 0
-
-  abbrev pub lastOn : ℕ → Point
-  lastOn i = pointAt (pointsOf lanes points i) (length (arcsOf lanes cumulative i) - 1)
-
-  -- the squared distance of p from lane i
-  abbrev pub awayFrom : ℕ → Point → Float
-  awayFrom i p = lengthSquared (subOf (projectOf (pointsOf lanes points i) (arcsOf lanes cumulative i) p .point) p)
-
   -- `nearer_end`: whether the lane `next` lies nearer the end of lane i than its start
   unfoldable pub nearerEnd : ℕ → ℕ → Bool
-  nearerEnd i next = le (awayFrom next (lastOn i)) (awayFrom next (firstOn i))
+  nearerEnd i next =
+      le (awayFrom lanes points cumulative next (tailOf lanes points cumulative i)) (awayFrom lanes points cumulative next (headOf lanes points i))
 
   -- whether lane i is driven along its centre line: a lane of both directions toward the next lane
   unfoldable pub isForward : ℕ → ℕ → Bool

@@ -106,7 +106,8 @@ fn sample(
 ) -> Kept
     requires { ⌜ Line (now points) (now cumulative) × Rising (now cumulative) × (kept .count < 18446744073709551615) ⌝ }
     ensures { λ r. ⌜ (r ≡ pushing kept (pointAlong (now (points .entry)) (now (cumulative .entry)) (sampleAt entry span steps k)))
-        × (now (out .exit) ≡ putting kept (pointAlong (now (points .entry)) (now (cumulative .entry)) (sampleAt entry span steps k)) (now (out .entry))) ⌝ }
+        × (now (out .exit) ≡ putting kept (pointAlong (now (points .entry)) (now (cumulative .entry)) (sampleAt entry span steps k))
+        (now (out .entry))) ⌝ }
 {
     let t = float::nearest_usize_to_f32(k) / float::nearest_usize_to_f32(steps);
     push_dedup(
@@ -296,7 +297,7 @@ fn sample_lane(
 }
 
 // Samples the lane path into points: each lane's centerline traversed in its travel direction, from the first lane's entry projection to the
-// last lane's exit projection. Points are written as far as `out` has room, and no more are sampled once over `room` are kept.
+// last lane's exit projection. No more are sampled once one over `room` is kept; of the points kept so many are written as `out` has room for.
 pub fn sample_route(
     lanes: &[usize],
     n: usize,

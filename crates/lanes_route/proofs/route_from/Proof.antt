@@ -28,10 +28,13 @@ slice-aggregate-cs : tie.Need-slice-aggregate-cs
 slice-aggregate-cs c = sym (length-take-le _ _ (c .before .before .before .before .before .before .before .before .before .before .pre .arcs-there))
 
 slice-aggregate-fs : tie.Need-slice-aggregate-fs
-slice-aggregate-fs c = sym (length-take-le _ _ (c .before .before .before .before .before .before .before .before .before .before .before .pre .fans-there))
+slice-aggregate-fs c =
+    sym (length-take-le _ _ (c .before .before .before .before .before .before .before .before .before .before .before .pre .fans-there))
 
 slice-aggregate-ks : tie.Need-slice-aggregate-ks
-slice-aggregate-ks c = sym (length-take-le _ _ (c .before .before .before .before .before .before .before .before .before .before .before .before .pre .links-there))
+slice-aggregate-ks c =
+    let c₁ = c .before .before .before .before .before .before .before .before .before .before .before .before in
+    sym (length-take-le _ _ (c₁ .pre .links-there))
 
 route-requires : tie.Need-route-requires
 route-requires c κs =

@@ -2,7 +2,8 @@
 use borrow.Author.Needs.{needs}
 use Rattle.route.proofs.count_points.Statement.{statement}
 use Rattle.route.proofs.count_points.Tie as tie
-use Rattle.route.specs.Steps.{counted}
+use mathlib.Core.Path.{ap}
+use Rattle.sampling.specs.declared.Kept.{Kept}
 
 slice-aggregate-sample-route : tie.Need-slice-aggregate-sample-route
 slice-aggregate-sample-route c = search needs
@@ -11,7 +12,7 @@ sample-route-requires : tie.Need-sample-route-requires
 sample-route-requires c κs = search needs
 
 returns : tie.Need-returns
-returns c = counted _ _ _ _ _ (c .before .sample-route .ensures)
+returns c = ap (λ (k : Kept). k .count) (c .before .sample-route .ensures .kept)
 
 pub count-points-spec : {M : Type 1} → statement M
 count-points-spec = tie.close (tie.spec slice-aggregate-sample-route sample-route-requires returns)

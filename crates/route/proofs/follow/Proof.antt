@@ -7,7 +7,8 @@ use lib.ListN.{length}
 use Rattle.sampling.specs.Sampling.{routeTables}
 use Rattle.search.specs.Search.{found}
 use Rattle.route.specs.Route.{followed, refusal}
-use Rattle.route.specs.Steps.{all-linked, chain-over, lane-rows, points-over, refuses, route-answer, route-fits, routes-as}
+use Rattle.route.specs.Steps.{all-linked, chain-over, count-fits, count-over, lane-rows, points-over, refuses, route-answer, route-fits}
+use Rattle.route.specs.Steps.{routes-as}
 
 refused-requires : tie.Need-refused-requires
 refused-requires c κs = search needs
@@ -17,8 +18,8 @@ returns c =
     let c₁ = c .before .before .before .before .before .before .before .before .before .before in
     let a = c₁ .args in
     let T = routeTables (a .lanes .now) (a .points .now) (a .cumulative .now) (a .fans .now) (a .links .now) in
-    routes-as (refusal 14) _ _ (a .chain .now) _ (a .places .now) _ (chain-over T (a .path .now) (a .cost) (a .s) (a .t) (length (a .chain .now))
-    (length (a .places .now)) (c .before .if1 .taken)) (refuses 14 _ (a .chain .now) (a .places .now) (c .refused .ensures))
+    routes-as (refusal 14) _ _ (a .chain .now) _ (a .stops .now) _ (chain-over T (a .path .now) (a .cost) (a .s) (a .t) (length (a .chain .now))
+    (length (a .stops .now)) (c .before .if1 .taken)) (refuses 14 _ (a .chain .now) (a .stops .now) (c .refused .ensures))
 
 count-points-requires : tie.Need-count-points-requires
 count-points-requires c κs =
@@ -38,9 +39,9 @@ returns-2 c =
     let c₁ = c .before .before .before .before .before .before .before .before .before .before .before .before in
     let a = c₁ .args in
     let T = routeTables (a .lanes .now) (a .points .now) (a .cumulative .now) (a .fans .now) (a .links .now) in
-    routes-as (refusal 14) _ _ (a .chain .now) _ (a .places .now) _ (points-over T (a .path .now) (a .cost) (a .s) (a .t)
-    (length (a .chain .now)) (length (a .places .now)) (c .before .before .count-points .ensures .over-room (c .before .if2 .taken)))
-    (refuses 14 _ (a .chain .now) (a .places .now) (c .refused2 .ensures))
+    routes-as (refusal 14) _ _ (a .chain .now) _ (a .stops .now) _ (points-over T (a .path .now) (a .cost) (a .s) (a .t)
+    (length (a .chain .now)) (length (a .stops .now)) (count-over _ _ _ (c .before .before .count-points .ensures) (c .before .if2 .taken)))
+    (refuses 14 _ (a .chain .now) (a .stops .now) (c .refused2 .ensures))
 
 write-chain-requires : tie.Need-write-chain-requires
 write-chain-requires c κs =
@@ -59,7 +60,7 @@ write-points-requires c κs =
       c₃ .pre .0,
       c₃ .pre .1 .laid,
       all-linked T (a .n) (c₃ .pre .1),
-      (let e = c₂ .count-points .ensures .fits (c₁ .if2 .left) in omega
+      (let e = count-fits _ _ _ (c₂ .count-points .ensures) (c₁ .if2 .left) in omega
           (arith, e, c₁ .if2 .left)),
     )
 
@@ -79,15 +80,15 @@ returns-3 c =
     let c₅ = c₄ .before .before .before .before .before .before .before .before .before in
     let a = c₅ .args in
     let T = routeTables (a .lanes .now) (a .points .now) (a .cumulative .now) (a .fans .now) (a .links .now) in
-    let e = c₃ .count-points .ensures .fits (c₂ .if2 .left) in
-    routes-as (followed T (a .s) (a .t) (found (a .path .now) (a .cost))) _ _ (a .chain .now) _ (a .places .now) _
-    (route-fits T (a .path .now) (a .cost) (a .s) (a .t) (length (a .chain .now)) (length (a .places .now)) (c₄ .if1 .left)
+    let e = count-fits _ _ _ (c₃ .count-points .ensures) (c₂ .if2 .left) in
+    routes-as (followed T (a .s) (a .t) (found (a .path .now) (a .cost))) _ _ (a .chain .now) _ (a .stops .now) _
+    (route-fits T (a .path .now) (a .cost) (a .s) (a .t) (length (a .chain .now)) (length (a .stops .now)) (c₄ .if1 .left)
     (omega (arith, e, c₂ .if2 .left)))
     (record {
       answer-is = route-answer T (a .path .now) (a .cost) (a .s) (a .t) (c₃ .count-points .result) e;
       chain-is = c₁ .write-chain
           .ensures;
-      places-is = c .before .before .write-points .ensures;
+      stops-is = c .before .before .write-points .ensures;
     })
 
 pub follow-spec : {M : Type 1} → statement M

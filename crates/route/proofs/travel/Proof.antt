@@ -10,7 +10,7 @@ use Rattle.sampling.specs.Sampling.{routeTables}
 use Rattle.search.specs.Search.{found}
 use Rattle.route.specs.PathRows.{path-rows}
 use Rattle.route.specs.Route.{fitted, followed, pathOf, refusal, suffices}
-use Rattle.route.specs.Steps.{Found-path, all-long, lane-rows, path-found, path-none, path-refused, path-taken, refuses, routes-as}
+use Rattle.route.specs.Steps.{all-long, lane-rows, path-found, path-none, path-refused, path-taken, refuses, routes-as}
 
 lane-path-requires : tie.Need-lane-path-requires
 lane-path-requires c κs =
@@ -30,8 +30,8 @@ returns c =
     let T = routeTables (a .lanes .now) (a .points .now) (a .cumulative .now) (a .fans .now) (a .links .now) in
     let X = pathOf T (a .n) (a .start) (a .s) (a .goal) (a .t) in
     let e = path-none (c₁ .lane-path .result) X (c₁ .lane-path .ensures) (not-true (c₁ .lane-path .result .ok) (c .before .if1 .taken)) in
-    routes-as (refusal 11) _ _ (a .chain .now) _ (a .places .now) _ (path-refused T (a .n) (length (a .chain .now)) (length (a .places .now))
-    (a .s) (a .t) X e) (refuses 11 _ (a .chain .now) (a .places .now) (c .refused .ensures))
+    routes-as (refusal 11) _ _ (a .chain .now) _ (a .stops .now) _ (path-refused T (a .n) (length (a .chain .now)) (length (a .stops .now))
+    (a .s) (a .t) X e) (refuses 11 _ (a .chain .now) (a .stops .now) (c .refused .ensures))
 
 array-share-prefix-path : tie.Need-array-share-prefix-path
 array-share-prefix-path c =
@@ -77,9 +77,9 @@ returns-2 c =
     let r = c₃ .lane-path .result in
     let F = path-found r X (a .n) (path-rows (suffices (a .lanes .now) (a .start) (a .s) (a .goal) (a .t)) T (a .n) (a .start) (a .goal)
     (c₄ .pre .0) (c₄ .pre .1)) (c₃ .lane-path .ensures) (not-false (r .ok) (c₂ .if1 .left)) in
-    routes-as (fitted (length (a .chain .now)) (length (a .places .now)) (followed T (a .s) (a .t)
-    (found (take (r .count) (r .path)) (r .cost)))) _ _ (a .chain .now) _ (a .places .now) _
-    (path-taken T (a .n) (length (a .chain .now)) (length (a .places .now)) (a .s) (a .t) (r .cost) (take (r .count) (r .path)) X (F .is))
+    routes-as (fitted (length (a .chain .now)) (length (a .stops .now)) (followed T (a .s) (a .t)
+    (found (take (r .count) (r .path)) (r .cost)))) _ _ (a .chain .now) _ (a .stops .now) _
+    (path-taken T (a .n) (length (a .chain .now)) (length (a .stops .now)) (a .s) (a .t) (r .cost) (take (r .count) (r .path)) X (F .is))
     (c₁ .follow .ensures)
 
 pub travel-spec : {M : Type 1} → statement M

@@ -4,7 +4,7 @@ use Rattle.route.proofs.write_chain.Tie as tie
 use borrow.Author.Needs.{needs}
 use native.Mathlib.Omega.{arith}
 use mathlib.Core.List.{map}
-use mathlib.Core.Path.{_≡_, _∙_, ap, refl}
+use mathlib.Core.Path.{_≡_, refl}
 use Prim.Native.Nat.{_-_, _≤_}
 use lib.ListN.{length, length-set, take}
 use Rattle.geometry.specs.Over.{over}
@@ -12,7 +12,8 @@ use Rattle.rows.specs.Rows.{laneNumber}
 use Rattle.route.specs.Steps.{chain-next, chain-start, chain-whole}
 
 abbrev Inv-loop : tie.InvT-loop
-Inv-loop lanes n path chain₀ k₀ chain k = (k ≤ length path) × (length chain ≡ length chain₀) × (chain ≡ over (map (laneNumber lanes) (take k path)) chain₀)
+Inv-loop lanes n path chain₀ k₀ chain k =
+    (k ≤ length path) × (length chain ≡ length chain₀) × (chain ≡ over (map (laneNumber lanes) (take k path)) chain₀)
 
 abbrev μ-loop : tie.MeasureT-loop
 μ-loop lanes n path chain₀ k₀ chain k = length path - k

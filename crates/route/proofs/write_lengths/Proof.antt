@@ -3,7 +3,7 @@ use Rattle.route.proofs.write_lengths.Statement.{statement}
 use Rattle.route.proofs.write_lengths.Tie as tie
 use borrow.Author.Needs.{needs}
 use native.Mathlib.Omega.{arith}
-use mathlib.Core.Path.{_≡_, _∙_, ap, refl}
+use mathlib.Core.Path.{_≡_, refl}
 use Prim.Native.Nat.{_-_, _≤_}
 use lib.ListN.{length, length-set}
 use Rattle.geometry.specs.Over.{over}
@@ -11,7 +11,8 @@ use Rattle.route.specs.Route.{lengthsTo}
 use Rattle.route.specs.Steps.{lengths-next, lengths-start}
 
 abbrev Inv-loop : tie.InvT-loop
-Inv-loop lanes n cumulative lengths₀ i₀ lengths i = (i ≤ n) × (length lengths ≡ length lengths₀) × (lengths ≡ over (lengthsTo lanes cumulative i) lengths₀)
+Inv-loop lanes n cumulative lengths₀ i₀ lengths i =
+    (i ≤ n) × (length lengths ≡ length lengths₀) × (lengths ≡ over (lengthsTo lanes cumulative i) lengths₀)
 
 abbrev μ-loop : tie.MeasureT-loop
 μ-loop lanes n cumulative lengths₀ i₀ lengths i = n - i

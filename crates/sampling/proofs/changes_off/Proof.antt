@@ -3,7 +3,7 @@ use borrow.Author.Needs.{needs}
 use Rattle.sampling.proofs.changes_off.Statement.{statement}
 use Rattle.sampling.proofs.changes_off.Tie as tie
 use native.Mathlib.Omega.{arith}
-use mathlib.Core.Bool.{Bool, false, not, _&&_}
+use mathlib.Core.Bool.{Bool, not, _&&_}
 use mathlib.Core.Path.{_≡_, _∙_, ap, ap₂, sym}
 use Prim.Native.Nat.{ℕ, _+_, _-_}
 use Rattle.rows.specs.Rows.{firstLink, firstNeighbour, neighbours, successors}

@@ -11,7 +11,8 @@ use lib.Ieee.{Float}
 use Rattle.branches.specs.Branches.{atEnd}
 use Rattle.sampling.specs.Sampling.{isForward, nearerEnd}
 
-same : (lanes : List ℕ) (points cumulative : List Float) (i next : ℕ) → atEnd lanes points cumulative i next true ≡ nearerEnd lanes points cumulative i next
+same : (lanes : List ℕ) (points cumulative : List Float) (i next : ℕ)
+    → atEnd lanes points cumulative i next true ≡ nearerEnd lanes points cumulative i next
 unfolding atEnd nearerEnd
 same lanes points cumulative i next = refl
 

@@ -2,11 +2,7 @@
 use borrow.Author.Needs.{needs}
 use Rattle.sampling.proofs.is_fresh.Statement.{statement}
 use Rattle.sampling.proofs.is_fresh.Tie as tie
-use mathlib.Core.Path.{_≡_}
-use mathlib.Core.Bool.{cond, true}
 use borrow.Author.Tests.{le-ltb, lt-ltb}
-use lib.Ieee.{lt}
-use Rattle.geometry.specs.Locate.{micro}
 use Rattle.sampling.specs.Kept.{isFresh}
 
 distance-squared-to-requires : tie.Need-distance-squared-to-requires

@@ -3,7 +3,6 @@ use Rattle.sampling.proofs.sample_route.Statement.{statement}
 use Rattle.sampling.proofs.sample_route.Tie as tie
 use borrow.Author.Needs.{needs}
 use native.Mathlib.Omega.{arith}
-use mathlib.Core.List.{List}
 use mathlib.Core.Path.{_≡_, _∙_, ap, refl}
 use Prim.Native.Nat.{_-_}
 use lib.Ieee.{Float}
@@ -15,7 +14,8 @@ use Rattle.sampling.specs.Passes.{Routing, length-laid, routing-ends, ro
 use Rattle.sampling.specs.Sampling.{entryOn, routeTables, sampleRoute}
 
 abbrev Inv-loop : tie.InvT-loop
-Inv-loop lanes n points cumulative fans links path start goal room out₀ i₀ entry₀ kept₀ k₀ out i entry kept k = Routing (routeTables lanes points cumulative fans links) goal path n
+Inv-loop lanes n points cumulative fans links path start goal room out₀ i₀ entry₀ kept₀ k₀ out i entry kept k =
+    Routing (routeTables lanes points cumulative fans links) goal path n
     (sampleRoute (routeTables lanes points cumulative fans links) path start goal) out₀ room k i entry kept out × (length out ≡ length out₀)
 
 abbrev μ-loop : tie.MeasureT-loop

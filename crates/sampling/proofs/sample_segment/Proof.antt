@@ -11,13 +11,15 @@ use lib.Ieee.{Float, binary32, sub}
 use Rattle.coords.specs.declared.Point.{Point}
 use Rattle.geometry.specs.Locate.{pointAlong}
 use Rattle.sampling.specs.Kept.{keptOf, laid}
-use Rattle.sampling.specs.Passes.{Sampling, length-putting, sampled-as, sampling-ends, sampling-next, sampling-starts, sampling-stops, segment-point}
-use Rattle.sampling.specs.Passes.{segment-samples}
+use Rattle.sampling.specs.Passes.{Sampling, length-putting, sampled-as, sampling-ends, sampling-next, sampling-starts, sampling-stops}
+use Rattle.sampling.specs.Passes.{segment-point, segment-samples}
 use Rattle.sampling.specs.Sampling.{sampleFrom}
 
 abbrev Inv-loop : tie.InvT-loop
-Inv-loop points cumulative entry exit room out₀ span steps all₀ k₀ out all k = (k ≤ steps) × (all .count ≤ room) × ((qs : List Point) (old : List Float) → all₀ ≡ keptOf qs → out₀ ≡ laid qs old
-    → Sampling (pointAlong points cumulative) entry span steps k (sampleFrom (pointAlong points cumulative) entry span steps (steps + 1) 0 qs) old all out) × (length out ≡ length out₀)
+Inv-loop points cumulative entry exit room out₀ span steps all₀ k₀ out all k =
+    (k ≤ steps) × (all .count ≤ room) × ((qs : List Point) (old : List Float) → all₀ ≡ keptOf qs → out₀ ≡ laid qs old
+    → Sampling (pointAlong points cumulative) entry span steps k
+    (sampleFrom (pointAlong points cumulative) entry span steps (steps + 1) 0 qs) old all out) × (length out ≡ length out₀)
 
 abbrev μ-loop : tie.MeasureT-loop
 μ-loop points cumulative entry exit room out₀ span steps all₀ k₀ out all k = steps - k
@@ -49,6 +51,7 @@ returns c =
     let a = c₅ .args in
     segment-point (pointAlong (a .points .now) (a .cumulative .now)) (a .entry) (a .exit) (c₄ .abs .result) (c₄ .abs .ensures) qs (a .room)
     (c₂ .point-at .result) old _ _ _ _ (c₃ .if1 .taken) (c₂ .point-at .ensures) e f (c₁ .push-dedup .ensures .0) (c₁ .push-dedup .ensures .1)
+    (c₅ .pre .2)
 
 steps-of-requires : tie.Need-steps-of-requires Inv-loop μ-loop
 steps-of-requires c κs = search needs
@@ -86,7 +89,7 @@ returns-2 c =
     sampled-as (a .room) _ _ old _ _ (segment-samples place (a .entry) (a .exit) (c₅ .abs .result) (c₅ .abs .ensures) qs (c₃ .steps-of .result)
     (c₄ .if1 .left) (c₃ .steps-of .ensures))
     (sampling-stops place (a .entry) (sub binary32 (a .exit) (a .entry)) (c₃ .steps-of .result) (l .k) _ old _ _ _ _ (l .inv .2 qs old e f)
-    (c₁ .sample .ensures .0) (c₁ .sample .ensures .1) (a .room) (c .if2 .taken))
+    (c₁ .sample .ensures .0) (c₁ .sample .ensures .1) (a .room) (l .inv .1) (c .if2 .taken))
 
 add-k : tie.Need-add-k Inv-loop μ-loop
 add-k c = omega (arith, c .before .before .before .before .before .before .loop-test .taken)
@@ -138,7 +141,7 @@ returns-3 c =
     sampled-as (a .room) _ _ old _ _ (segment-samples place (a .entry) (a .exit) (c₆ .abs .result) (c₆ .abs .ensures) qs (c₄ .steps-of .result)
     (c₅ .if1 .left) (c₄ .steps-of .ensures))
     (sampling-ends place (a .entry) (sub binary32 (a .exit) (a .entry)) (c₄ .steps-of .result) (l .k) _ old _ _ _ _ (l .inv .2 qs old e f) e-k
-    (c₁ .sample2 .ensures .0) (c₁ .sample2 .ensures .1) (a .room))
+    (c₁ .sample2 .ensures .0) (c₁ .sample2 .ensures .1) (a .room) (l .inv .1))
 
 pub sample-segment-spec : {M : Type 1} → statement M
 sample-segment-spec =
