@@ -1,4 +1,5 @@
--- A position moved on along the lanes of a plan: by the rows that the plan's tables hold of it. Definitions only.
+-- A position moved on along the lanes of a plan: by the rows that the plan's tables hold of it. (Linked.antt: the links that it follows are the
+-- plan's link records.) Definitions only.
 use mathlib.Core.List.{List}
 use Prim.Native.Nat.{ℕ}
 use lib.Ieee.{Float}

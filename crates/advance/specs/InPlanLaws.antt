@@ -5,27 +5,28 @@ use Prim.Native.Nat.{ℕ, suc, _+_, _-_, _*_, _<_, _≤_}
 use native.Mathlib.Omega.{arith}
 use lib.ListN.{length, getD, length-map, take}
 use lib.Ieee.{Float, nan}
-use Rattle.float_laws.proofs.Compare.{less-le}
+use Rattle.float_laws.specs.Compare.{less-le}
 use Rattle.geometry.specs.Partition.{Rising}
 use Rattle.geometry.specs.Polyline.{cumulativeOf}
 use Rattle.road.specs.Along.{Stationed}
 use Rattle.rows.specs.Rows.{firstLink, successors, predecessors, placeOf, placedSection, firstStation, endStation, stationsOf}
 use Rattle.plan.specs.Accepted.{Accepted}
 use Rattle.plan.specs.Links.{links-all}
-use Rattle.plan.specs.Rows.{fan-entry, section-entry, stations-part, stations-end, lanes-size, fans-size, places-size, sections-size}
+use Rattle.plan.specs.Rows.{section-entry, stations-part, stations-end, lanes-size, fans-size, places-size, sections-size}
 use Rattle.plan.specs.Rows.{links-end}
 use Rattle.plan_format.specs.Laws.{getD-map-in}
 use Rattle.plan_format.specs.Lookup.{index-own}
 use Rattle.plan_format.specs.Plan.{Plan, laneOf, numberOf, placeLane, placeSection, sectionCount, sectionOf}
 use Rattle.plan_format.specs.Reading.{sum}
 use Rattle.plan_format.specs.Records.{Lane, Section}
-use Rattle.plan_format.specs.Tables.{linkCount, planRows}
+use Rattle.plan_format.specs.Tables.{planRows}
 use Rattle.tables.specs.LaneTables.{cumulativeRow, laneRows, noLane}
 use Rattle.tables.specs.Lines.{arcs-are, arcs-within, cumulative-length, line, points-are, points-within, rising}
 use Rattle.beside.specs.InPlan.{noPlace, noSection, placeAt, placed}
 use Rattle.beside.specs.InPlanLaws.{found, place-of, placed-section, seated}
 use Rattle.branches.specs.Tables.{Laid, Ending, Tabled, Bounded}
 use Rattle.advance.specs.InPlan.{planTables}
+use Rattle.advance.specs.Linked.{first-link, predecessor-count, successor-count}
 
 module _ (p : Plan) (A : Accepted p) where
   abbrev lanes : List ℕ
@@ -163,10 +164,9 @@ module _ (p : Plan) (A : Accepted p) where
   links-within : (i : ℕ) → i < n → 2 * (firstLink fans i + successors fans i + predecessors fans i) ≤ length (planRows p .links)
   links-within i h =
       let b : i < length numbers = omega (arith, length-map (p .lanes) numberOf) in
-      let z : 5 * i ≡ 5 * i + 0 = omega arith in
-      let first : firstLink fans i ≡ sum (map (linkCount (p .links)) (take i numbers)) = rw z (fan-entry p i 0 b (omega arith)) in
-      let ahead = fan-entry p i 1 b (omega arith) in
-      let back = fan-entry p i 2 b (omega arith) in
+      let first = first-link p i h in
+      let ahead = successor-count p i h in
+      let back = predecessor-count p i h in
       let end = links-end p A i b in
       omega arith
 

@@ -3,5 +3,6 @@ pub mod Advance
 pub mod QueryLaws
 pub mod Counted
 pub mod InPlan
+pub mod Linked
 pub mod InPlanLaws
 pub mod Cases

@@ -1,15 +1,15 @@
 -- What the code of the query makes of a run: its first branches, its answer, and the lists written.
 use mathlib.Core.Path.{_≡_, refl, sym, ap, _∙_}
 use mathlib.Core.Bool.{Bool, true, false, not}
-use mathlib.Core.List.{List, [], _∷_, _++_, append-assoc}
+use mathlib.Core.List.{List, [], _∷_, _++_}
 use Prim.Native.Nat.{ℕ, _+_, _*_, _<_, _≤_}
 use native.Mathlib.Numerals.{add-one}
 use native.Mathlib.Omega.{arith}
-use lib.ListN.{length, set, length-append}
+use lib.ListN.{length, length-append}
 use lib.Ieee.{Float, nan, le}
 use lib.Ieee.Scale.{finite}
 use borrow.Author.Tests.{eq-eqb, ne-eqb, lt-ltb, le-ltb, lt-leb, le-leb}
-use Rattle.geometry.specs.Over.{over, over-next, over-three}
+use Rattle.geometry.specs.Over.{over, over-three, over-two}
 use Rattle.road.specs.Along.{alongOf}
 use Rattle.plan_format.specs.declared.LaneId.{LaneId}
 use Rattle.beside.specs.declared.LanePosition.{LanePosition}
@@ -57,14 +57,6 @@ rows-length : {A : Type 0} (row : Advance → List A) (w : ℕ) → ((a : Advanc
 unfolding rowsOf
 rows-length row w e [] = omega arith
 rows-length row w e (x ∷ xs) = let r = rows-length row w e xs in let n = e x in let l = length-append (rowsOf row xs) (row x) in omega arith
-
-over-two : {A : Type 0} (xs old : List A) (k : ℕ) (a b : A) → length xs ≡ k → k + 1 < length old
-    → set (set (over xs old) k a) (k + 1) b ≡ over (xs ++ (a ∷ b ∷ [])) old
-over-two {A} xs old k a b e h =
-    let joined : (xs ++ (a ∷ [])) ++ (b ∷ []) ≡ xs ++ (a ∷ b ∷ []) = simp append-assoc in
-    ap (λ (l : List A). set l (k + 1) b) (over-next xs old k a e (omega arith))
-    ∙ over-next (xs ++ (a ∷ [])) old (k + 1) b (simp length-append (omega arith)) h
-    ∙ ap (λ (l : List A). over l old) joined
 
 module _ (f : ℕ → Advance) (i : ℕ) (a : Advance) (is : a ≡ f i) where
   pub cases-next : (old out : List ℕ) → out ≡ over (rowsOf caseRow (heldBy f i)) old → 2 * i + 1 < length old
@@ -145,7 +137,11 @@ module _ (t : Tables) (i : ℕ) (arc offset distance : Float) (ahead : Bool) (fo
       (λ (b : Bool). runFrom t b 1026 (noneYet (firstBranches (t .lanes) b i arc offset distance))) forward
 
   pub fresh-is : (f : ℕ → Branch) (g : ℕ → Key) (h : ℕ → Placing) (k : ℕ → Advance) (n : ℕ) → heldBy f n ≡ branches
-      → _≡_ {A = State} (record { front = record { todo = heldBy f n; entered = heldBy g 0; full = false }; found = record { placed = heldBy h 0; out = heldBy k 0 } })
+      → _≡_ {A = State}
+      (record {
+        front = record { todo = heldBy f n; entered = heldBy g 0; full = false };
+        found = record { placed = heldBy h 0; out = heldBy k 0 };
+      })
       (noneYet branches)
   unfolding heldBy
   fresh-is f g h k n e = rw e

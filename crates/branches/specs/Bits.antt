@@ -1,8 +1,7 @@
 -- The 64 bits of a signed number, and how `bits_of` finds them.
 use mathlib.Core.Path.{_≡_, refl, sym, ap, _∙_, subst}
-use mathlib.Core.Bool.{Bool, true, false, true≢false}
-use Prim.Native.Nat.{ℕ, zero, suc, _+_, _-_, _^_, _<_, _≤_}
-use native.Mathlib.Nat.{zero-add}
+use mathlib.Core.Bool.{true, false, true≢false}
+use Prim.Native.Nat.{ℕ, suc, _-_, _^_, _<_, _≤_}
 use native.Mathlib.Omega.{arith}
 use lib.Dec.{T}
 use lib.IntN.{ℤ, pos, negsuc, natAbs, _-ℤ_}
@@ -11,10 +10,6 @@ use mir.Syntax.{w64}
 use mir.Val.{toZ, ofZ, Fits, SFits}
 use mir.ValLaws.{toZ-ofZ}
 use borrow.Author.Tests.{ltb-true, le-ltb}
-
--- equal bits are the bits of equal numbers
-pub same-bits : (y z : ℤ) → SFits w64 y → SFits w64 z → ofZ w64 y ≡ ofZ w64 z → y ≡ z
-same-bits y z a b e = sym (toZ-ofZ w64 y a) ∙ ap (toZ w64) e ∙ toZ-ofZ w64 z b
 
 -- what a number below zero lies below -1
 abbrev below : ℤ → ℕ

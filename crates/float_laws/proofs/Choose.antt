@@ -10,8 +10,8 @@ use Rattle.float.specs.declared.choose.Order.the-variants.{Less, Equal, Greater
 use Rattle.float.specs.Sign.{isNegative}
 use Rattle.float.specs.Choose.{zero, levelOf, minOf, maxOf, clampOf, pick, compareBools, totalOf}
 use Rattle.float_laws.specs.Choose.{Least, Greatest, Clamped}
-use Rattle.float_laws.proofs.Compare.{less-le, equal-le, eq-self, eq-turn, neither-less, not-less, less-no-le, equal-same}
-use Rattle.float_laws.proofs.Compare.{zero-equal, zeros-equal}
+use Rattle.float_laws.specs.Compare.{less-le, equal-le, eq-self, eq-turn, neither-less, not-less, less-no-le, equal-same}
+use Rattle.float_laws.specs.Compare.{zero-equal, zeros-equal}
 
 and-true : (a b : Bool) → (a && b) ≡ true → (a ≡ true) × (b ≡ true)
 and-true true b h = (refl, h)

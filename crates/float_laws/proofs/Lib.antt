@@ -2,7 +2,6 @@
 pub mod Others
 pub mod Reach
 pub mod Nearest
-pub mod Compare
 pub mod Choose
 pub mod Whole
 pub mod Casts

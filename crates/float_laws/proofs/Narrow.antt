@@ -19,7 +19,7 @@ use Rattle.float.specs.Narrow.{narrowOf}
 use Rattle.float.proofs.Signs.{neg-round}
 use Rattle.float_laws.specs.Nearest.{Nearest, InReach, reach}
 use Rattle.float_laws.proofs.Nearest.{round-nearest, round-over}
-use Rattle.float_laws.proofs.Compare.{neg-le, minus-le-plus, both-zero, minus-infinity, plus-infinity}
+use Rattle.float_laws.specs.Compare.{neg-le, minus-le-plus, both-zero, minus-infinity, plus-infinity}
 
 -- ---- nearest, by the size; the sign is put back
 signed-round : (s : Bool) (a c : ℕ) → round binary32 s a c ≡ cond s (neg (round binary32 false a c)) (round binary32 false a c)

@@ -5,7 +5,7 @@ use Prim.Native.Nat.{ℕ, _+_, _-_, _≤_}
 use lib.ListN.{length, take, drop}
 use lib.Ieee.{Float}
 use borrow.Rule.Slice.PartMut.{putMid, post-is}
-pub use Rattle.lists.specs.Over.{over, placed, length-placed, over-first, over-next, over-three, over-whole, over-placed}
+pub use Rattle.lists.specs.Over.{over, placed, length-placed, over-first, over-next, over-two, over-three, over-whole, over-placed}
 
 -- a part of a slice that was lent, back with other entries
 pub put-back : (k e : ℕ) (old ys xs : List Float) → k ≤ e → ys ≡ xs → k + length xs ≡ e → putMid k (e - k) old ys ≡ placed k xs old

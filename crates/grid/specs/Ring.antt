@@ -58,12 +58,12 @@ isEmpty (c ∷ cs) = false
 -- ---- the stop rule
 
 -- what ring r holds is r - 1 whole cells away, or more
-abbrev pub floorOf : Grid → ℕ → Float
-floorOf g r = mul binary32 (ofWhole (r - 1)) (g .cell)
+abbrev pub ringFloor : Grid → ℕ → Float
+ringFloor g r = mul binary32 (ofWhole (r - 1)) (g .cell)
 
 -- d2 is at most the square of it
 unfoldable pub reachedAt : Grid → ℕ → Float → Bool
-reachedAt g r d2 = le d2 (mul binary32 (floorOf g r) (floorOf g r))
+reachedAt g r d2 = le d2 (mul binary32 (ringFloor g r) (ringFloor g r))
 
 -- ---- the same rows and columns as runs of numbers; `proofs/Runs.antt` proves that they are
 

@@ -5,7 +5,7 @@ use Prim.Native.Nat.{ℕ, _*_, _≤_}
 use lib.Ieee.{Float}
 use lib.ListN.{length, take}
 use Rattle.coords.specs.declared.Point.{Point}
-use Rattle.nearest.proofs.PlanLanes.{lanes-are, searchable}
+use Rattle.nearest.specs.PlanLanes.{lanes-are, searchable}
 use Rattle.nearest.specs.Nearest.{Searchable, nearestAmong, nearestFrom, nearestIn}
 use Rattle.nearest.specs.declared.NearestAnswer.{NearestAnswer}
 use Rattle.network.specs.Lanes.{Lane}

@@ -4,8 +4,8 @@ use mathlib.Core.Path.{ap, ap₂, refl, sym, _∙_, _≡_}
 use Prim.Native.Nat.{suc, ℕ, _+_, _<_, _≤_}
 use native.Mathlib.Numerals.{add-one}
 use native.Mathlib.Omega.{arith}
-use lib.ListN.{drop, drop-of-length-le, getD, length, length-append, length-drop, length-take, set, take}
-use lib.Seq.{drop-append-add, drop-cons, drop-drop, getD-append-add, getD-drop, set-at, take-at}
+use lib.ListN.{drop, drop-of-length-le, getD, length, length-append, length-drop, length-take, set, take, take-append-drop}
+use lib.Seq.{drop-append-add, length-take-le, drop-cons, drop-drop, getD-append-add, getD-drop, set-at, take-at}
 
 -- a table that held `old`, with these entries first
 abbrev pub over : {A : Type 0} → List A → List A → List A
@@ -43,18 +43,37 @@ over-next {A} xs old k v e h =
     ∙ set-at xs (getD old k v) (drop (suc k) old) v k e
     ∙ sym (simp (length-append, e, add-one, append-assoc))
 
--- the next three
+-- the next two, and the next three
+pub over-two : {A : Type 0} (xs old : List A) (k : ℕ) (a b : A) → length xs ≡ k → k + 1 < length old
+    → set (set (over xs old) k a) (k + 1) b ≡ over (xs ++ (a ∷ b ∷ [])) old
+over-two {A} xs old k a b e h =
+    let joined : (xs ++ (a ∷ [])) ++ (b ∷ []) ≡ xs ++ (a ∷ b ∷ []) = simp append-assoc in
+    ap (λ (l : List A). set l (k + 1) b) (over-next xs old k a e (omega arith))
+    ∙ over-next (xs ++ (a ∷ [])) old (k + 1) b (simp length-append (omega arith)) h
+    ∙ ap (λ (l : List A). over l old) joined
+
 pub over-three : {A : Type 0} (xs old : List A) (k : ℕ) (a b c : A) → length xs ≡ k → k + 2 < length old
     → set (set (set (over xs old) k a) (k + 1) b) (k + 2) c ≡ over (xs ++ (a ∷ b ∷ c ∷ [])) old
 over-three {A} xs old k a b c e h =
-    let joined : ((xs ++ (a ∷ [])) ++ (b ∷ [])) ++ (c ∷ []) ≡ xs ++ (a ∷ b ∷ c ∷ []) = simp append-assoc in
-    ap (λ (l : List A). set (set l (k + 1) b) (k + 2) c) (over-next xs old k a e (omega arith))
-    ∙ ap (λ (l : List A). set l (k + 2) c) (over-next (xs ++ (a ∷ [])) old (k + 1) b (simp length-append (omega arith)) (omega arith))
-    ∙ over-next ((xs ++ (a ∷ [])) ++ (b ∷ [])) old (k + 2) c (simp length-append (omega arith)) h
+    let joined : (xs ++ (a ∷ b ∷ [])) ++ (c ∷ []) ≡ xs ++ (a ∷ b ∷ c ∷ []) = simp append-assoc in
+    ap (λ (l : List A). set l (k + 2) c) (over-two xs old k a b e (omega arith))
+    ∙ over-next (xs ++ (a ∷ b ∷ [])) old (k + 2) c (simp length-append (omega arith)) h
     ∙ ap (λ (l : List A). over l old) joined
 
 pub length-placed : {A : Type 0} (k : ℕ) (xs old : List A) → k + length xs ≤ length old → length (placed k xs old) ≡ length old
 length-placed k xs old h = simp (length-append, length-take, length-drop) (omega arith)
+
+-- nothing written; from the first entry on; after the first k entries
+pub placed-none : {A : Type 0} (k : ℕ) (old : List A) → placed k [] old ≡ old
+placed-none {A} k old = let z : k + 0 ≡ k = omega arith in ap (λ (j : ℕ). take k old ++ drop j old) z ∙ take-append-drop k old
+
+pub placed-first : {A : Type 0} (xs old : List A) → placed 0 xs old ≡ over xs old
+placed-first xs old = let z : 0 + length xs ≡ length xs = omega arith in rw z refl
+
+pub over-taken : {A : Type 0} (k : ℕ) (xs old : List A) → k ≤ length old → over (take k old ++ xs) old ≡ placed k xs old
+over-taken {A} k xs old h =
+    let size : length (take k old ++ xs) ≡ k + length xs = length-append (take k old) xs ∙ ap (λ (j : ℕ). j + length xs) (length-take-le k old h) in
+    ap (λ (j : ℕ). (take k old ++ xs) ++ drop j old) size ∙ append-assoc (take k old) xs (drop (k + length xs) old)
 
 -- the next entries written
 pub over-placed : {A : Type 0} (xs ys old : List A) (k : ℕ) → length xs ≡ k → placed k ys (over xs old) ≡ over (xs ++ ys) old

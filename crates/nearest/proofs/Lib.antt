@@ -1,4 +1,2 @@
--- An index that was built is one to ask; what is answered; and the rows of an accepted plan.
+-- An index that was built is one to ask.
 pub mod Asking
-pub mod Answer
-pub mod PlanLanes

@@ -11,7 +11,7 @@ use Rattle.accuracy.specs.Taped.{SomeDrives}
 use Rattle.coords.specs.Coords.{finitePoint}
 use Rattle.coords.specs.declared.Point.{Point}
 use Rattle.geometry_laws.specs.Range.{PointIn}
-use Rattle.nearest.proofs.Answer.{among}
+use Rattle.nearest.specs.Answer.{among}
 use Rattle.nearest.specs.Nearest.{answerOf, lanesOf, nearestIn, refusal}
 use Rattle.nearest.specs.declared.NearestAnswer.{NearestAnswer}
 use Rattle.network.specs.Lanes.{Lane, drives, drivesTable}

@@ -12,6 +12,7 @@ use Rattle.coords.specs.Coords.{subOf, lengthSquared, finitePoint}
 use Rattle.geometry.specs.declared.Projection.{Projection}
 use Rattle.geometry.specs.Polyline.{cumulativeOf}
 use Rattle.geometry.specs.Project.{projectSegments}
+use Rattle.rows.specs.Rows.{arcsOf, pointCount, pointsOf}
 use Rattle.grid.specs.declared.Grid.{Grid}
 use Rattle.grid.specs.declared.Cell.{Cell}
 use Rattle.grid.specs.declared.Run.{Run}
@@ -23,8 +24,9 @@ use Rattle.network.specs.declared.Nearest.{Nearest}
 use Rattle.network.specs.declared.Nearest.the-variants.{None, Found}
 use Rattle.network.specs.Lanes.{Lane, Span}
 use Rattle.network.specs.Nearest.{Item, itemOf, itemsFrom, holds, Best, none, found, ceiling, wins, measured, projected}
-use Rattle.network.specs.Nearest.{considered, offered, offeredIn, visitCell, visitRing, enough, ringsFrom, searched, gridFor, nearestIn, nearestOf}
-use Rattle.network.specs.Tables.{part, firstAt, countAt, laneAt, boxIn, spanIn, spanList, itemIn, itemList, within, Entry}
+use Rattle.network.specs.Nearest.{considered, offered, offeredIn, visitCell, visitRing, enough, ringsFrom, searched, gridFor}
+use Rattle.network.specs.Nearest.{nearestIn, nearestOf}
+use Rattle.network.specs.Tables.{laneAt, spanIn, spanList, itemIn, itemList, within, Entry}
 use Rattle.network.specs.Tables.{told, bestOf}
 
 -- ---- a span that is measured
@@ -60,12 +62,9 @@ module _ (p : Point) (it : Item) (b : Best) (d : Float) (is : d ≡ dist2 (it .s
 -- ---- a span of the tables
 
 module _ (lanes : List ℕ) (points cumulative : List Float) (spans : List ℕ) (boxes : List Float) (ranges : List ℕ) where
-  abbrev lineOf : ℕ → List Float
-  lineOf row = part points (3 * firstAt lanes row) (3 * countAt lanes row)
-
   pub projected-is : (g : Grid) (i : ℕ) (p : Point) (q : Projection) → Entry lanes points cumulative spans boxes ranges g i
       → (row : ℕ) → row ≡ getD spans (3 * i) 0
-      → q ≡ projectSegments (lineOf row) (part cumulative (firstAt lanes row) (countAt lanes row)) p
+      → q ≡ projectSegments (pointsOf lanes points row) (arcsOf lanes cumulative row) p
       (getD spans (3 * i + 1) 0) (getD spans (3 * i + 2) 0)
       → q ≡ projected p (spanIn lanes points spans boxes i)
   unfolding projected spanIn laneAt
@@ -73,12 +72,12 @@ module _ (lanes : List ℕ) (points cumulative : List Float) (spans : List ℕ) 
       let some = entry .some in
       let end : getD spans (3 * i + 2) 0 ≡ getD spans (3 * i + 1) 0 + (getD spans (3 * i + 2) 0 - getD spans (3 * i + 1) 0) = omega arith in
       let s = getD spans (3 * i) 0 in
-      let line = lineOf s in
+      let line = pointsOf lanes points s in
       let first = getD spans (3 * i + 1) 0 in
       e
-      ∙ ap (λ (n : ℕ). projectSegments (lineOf n) (part cumulative (firstAt lanes n) (countAt lanes n)) p first (getD spans (3 * i + 2) 0)) is-row
+      ∙ ap (λ (n : ℕ). projectSegments (pointsOf lanes points n) (arcsOf lanes cumulative n) p first (getD spans (3 * i + 2) 0)) is-row
       ∙ ap (λ (cs : List Float). projectSegments line cs p first (getD spans (3 * i + 2) 0)) (entry .line .arcs)
-      ∙ ap (λ (n : ℕ). projectSegments line (cumulativeOf line (countAt lanes s)) p first n) end
+      ∙ ap (λ (n : ℕ). projectSegments line (cumulativeOf line (pointCount lanes s)) p first n) end
 
   pub holds-is : (index : LaneIndex) (i ix iy : ℕ) → Entry lanes points cumulative spans boxes ranges (index .grid) i
       → within ranges i ix iy ≡ holds (itemIn lanes points spans boxes index i) (record { ix = ix; iy = iy })

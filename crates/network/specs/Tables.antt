@@ -1,17 +1,19 @@
--- How lanes, spans and answers stand in the tables that the code reads and writes. Definitions only.
+-- How lanes, spans and answers stand in the tables that the code reads and writes; crate `rows` says how rows of lanes are read. Definitions only.
 use mathlib.Core.Path.{_≡_}
 use mathlib.Core.Bool.{Bool, false, _&&_}
 use lib.Dec.{leb}
 use mathlib.Core.List.{List, [], _∷_}
 use Prim.Native.Nat.{ℕ, zero, suc, _+_, _-_, _*_, _<_, _≤_}
-use lib.ListN.{length, getD, take, drop}
-use lib.Seq.{sets}
+use lib.ListN.{length, getD}
 use lib.Ieee.{Float, nan}
 use Rattle.geometry.specs.declared.Projection.{Projection}
 use Rattle.geometry.specs.Polyline.{cumulativeOf}
+use Rattle.lists.specs.Over.{over, placed}
+use Rattle.lists.specs.Rows.{rows}
+use Rattle.rows.specs.Rows.{arcsOf, endPoint, laneNumber, pointCount, pointsOf, typeOf}
 use Rattle.grid.specs.declared.Aabb.{Aabb}
 use Rattle.grid.specs.declared.Grid.{Grid}
-use Rattle.grid.specs.Grid.{bucket, colOf, rowOf, Sides}
+use Rattle.grid.specs.Grid.{colOf, rowOf, Sides}
 use Rattle.network.specs.declared.LaneIndex.{LaneIndex}
 use Rattle.network.specs.declared.Nearest.{Nearest}
 use Rattle.network.specs.declared.Nearest.the-variants.{None, Found}
@@ -20,28 +22,14 @@ use Rattle.network.specs.Nearest.{Best, none, found, boxesOf, gridFor, I
 
 -- ---- lanes
 
--- the entries base .. base + size - 1
-abbrev pub part : {A : Type 0} → List A → ℕ → ℕ → List A
-part xs base size = take size (drop base xs)
-
--- a row of `lanes`: number, type, direction, ends, first point, points
-abbrev pub kindAt : List ℕ → ℕ → ℕ
-kindAt lanes row = getD lanes (6 * row + 1) 0
-
-abbrev pub firstAt : List ℕ → ℕ → ℕ
-firstAt lanes row = getD lanes (6 * row + 4) 0
-
-abbrev pub countAt : List ℕ → ℕ → ℕ
-countAt lanes row = getD lanes (6 * row + 5) 0
-
 -- the lane of a row
 unfoldable pub laneAt : List ℕ → List Float → ℕ → Lane
 laneAt lanes points row = record {
   row = row;
-  number = getD lanes (6 * row) 0;
-  kind = kindAt lanes row;
-  count = countAt lanes row;
-  points = part points (3 * firstAt lanes row) (3 * countAt lanes row);
+  number = laneNumber lanes row;
+  kind = typeOf lanes row;
+  count = pointCount lanes row;
+  points = pointsOf lanes points row;
 }
 
 -- k lanes from a row on
@@ -53,25 +41,21 @@ lanesFrom lanes points (suc k) row = laneAt lanes points row ∷ lanesFrom lanes
 -- what a row must be for the lane to be read: two points or more, all of them in the table, and a type that the table of drives has
 pub record Row (lanes : List ℕ) (points : List Float) (drives : List Bool) (row : ℕ) : Type 0 where
   pub inTable : 6 * row + 5 < length lanes
-  pub kind : kindAt lanes row < length drives
-  pub two : 2 ≤ countAt lanes row
-  pub within : 3 * (firstAt lanes row + countAt lanes row) ≤ length points
+  pub kind : typeOf lanes row < length drives
+  pub two : 2 ≤ pointCount lanes row
+  pub within : 3 * endPoint lanes row ≤ length points
 
 pub record Rows (lanes : List ℕ) (points : List Float) (drives : List Bool) (n : ℕ) : Type 0 where
   pub each : (row : ℕ) → row < n → Row lanes points drives row
 
 -- the arc lengths of the points of every row
 pub record Arcs (lanes : List ℕ) (points cumulative : List Float) (n : ℕ) : Type 0 where
-  pub within : (row : ℕ) → row < n → firstAt lanes row + countAt lanes row ≤ length cumulative
+  pub within : (row : ℕ) → row < n → endPoint lanes row ≤ length cumulative
   pub each : (row : ℕ) → row < n
-      → part cumulative (firstAt lanes row) (countAt lanes row)
-      ≡ cumulativeOf (part points (3 * firstAt lanes row) (3 * countAt lanes row)) (countAt lanes row)
+      → arcsOf lanes cumulative row
+      ≡ cumulativeOf (pointsOf lanes points row) (pointCount lanes row)
 
--- ---- tables written front to back: `out` with a row for each x, from entry k on
-
-unfoldable pub filled : {X A : Type 0} → (X → List A) → List X → ℕ → List A → List A
-filled row [] k out = out
-filled row (x ∷ xs) k out = filled row xs (k + length (row x)) (sets out k (row x))
+-- ---- the rows of an index
 
 -- a span: its lane's row, its first segment, and the segment after its last
 abbrev pub spanRow : Span → List ℕ
@@ -106,8 +90,8 @@ rangeRow g b = colOf g (b .«min_x») ∷ colOf g (b .«max_x») ∷ rowOf g (b 
 -- the spans ss written from span k on
 pub record Added (ss : List Span) (k r : ℕ) (spans spans′ : List ℕ) (boxes boxes′ : List Float) : Type 0 where
   pub count : r ≡ k + length ss
-  pub inSpans : spans′ ≡ filled spanRow ss (3 * k) spans
-  pub inBoxes : boxes′ ≡ filled spanBox ss (4 * k) boxes
+  pub inSpans : spans′ ≡ placed (3 * k) (rows spanRow ss) spans
+  pub inBoxes : boxes′ ≡ placed (4 * k) (rows spanBox ss) boxes
 
 -- the tables have room for them
 pub record Room (ss : List Span) (k : ℕ) (spans : List ℕ) (boxes : List Float) : Type 0 where
@@ -119,9 +103,9 @@ pub record Built (ss : List Span) (r : LaneIndex) (spans spans′ : List ℕ) (b
     (ranges ranges′ : List ℕ) : Type 0 where
   pub count : r .count ≡ length ss
   pub grid : r .grid ≡ gridFor ss
-  pub inSpans : spans′ ≡ filled spanRow ss 0 spans
-  pub inBoxes : boxes′ ≡ filled spanBox ss 0 boxes
-  pub inRanges : ranges′ ≡ filled (rangeRow (gridFor ss)) (boxesOf ss) 0 ranges
+  pub inSpans : spans′ ≡ over (rows spanRow ss) spans
+  pub inBoxes : boxes′ ≡ over (rows spanBox ss) boxes
+  pub inRanges : ranges′ ≡ over (rows (rangeRow (gridFor ss)) (boxesOf ss)) ranges
 
 -- ---- the index as a query reads it
 
@@ -157,18 +141,18 @@ within ranges i ix iy =
 -- a lane that can be projected onto: its points and their arc lengths are in the tables
 pub record Line (lanes : List ℕ) (points cumulative : List Float) (row : ℕ) : Type 0 where
   pub inTable : 6 * row + 5 < length lanes
-  pub two : 2 ≤ countAt lanes row
-  pub within : 3 * (firstAt lanes row + countAt lanes row) ≤ length points
-  pub arcsWithin : firstAt lanes row + countAt lanes row ≤ length cumulative
-  pub arcs : part cumulative (firstAt lanes row) (countAt lanes row)
-      ≡ cumulativeOf (part points (3 * firstAt lanes row) (3 * countAt lanes row)) (countAt lanes row)
+  pub two : 2 ≤ pointCount lanes row
+  pub within : 3 * endPoint lanes row ≤ length points
+  pub arcsWithin : endPoint lanes row ≤ length cumulative
+  pub arcs : arcsOf lanes cumulative row
+      ≡ cumulativeOf (pointsOf lanes points row) (pointCount lanes row)
 
 -- what the query may count on at span i
 pub record Entry (lanes : List ℕ) (points cumulative : List Float) (spans : List ℕ) (boxes : List Float) (ranges : List ℕ) (g : Grid)
     (i : ℕ) : Type 0 where
   pub line : Line lanes points cumulative (getD spans (3 * i) 0)
   pub some : getD spans (3 * i + 1) 0 < getD spans (3 * i + 2) 0
-  pub last : getD spans (3 * i + 2) 0 < countAt lanes (getD spans (3 * i) 0)
+  pub last : getD spans (3 * i + 2) 0 < pointCount lanes (getD spans (3 * i) 0)
   pub loX : getD ranges (4 * i) 0 ≡ colOf g (boxIn boxes i .«min_x»)
   pub hiX : getD ranges (4 * i + 1) 0 ≡ colOf g (boxIn boxes i .«max_x»)
   pub loY : getD ranges (4 * i + 2) 0 ≡ rowOf g (boxIn boxes i .«min_y»)

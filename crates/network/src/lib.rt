@@ -14,11 +14,14 @@ ghost use mathlib.Core.Bool.{true};
 ghost use mathlib.Core.List.{[], _∷_};
 ghost use lib.Seq.{sets};
 ghost use Rattle.geometry.specs.Project.{projectSegments};
+ghost use Rattle.lists.specs.Over.{over};
+ghost use Rattle.lists.specs.Rows.{rows};
+ghost use Rattle.rows.specs.Rows.{arcsOf, pointCount, pointsOf};
 ghost use Rattle.grid.specs.Grid.{extentOf, Sides};
 ghost use Rattle.grid.specs.Ring.{listed, rowCells, ringOf, Inside};
 ghost use Rattle.network.specs.Lanes.{around, driving, drivesTable};
-ghost use Rattle.network.specs.Tables.{laneAt, lanesFrom, Row, Rows, filled, boxRow, boxIn, boxList, rangeRow, Added, Room, Built};
-ghost use Rattle.network.specs.Tables.{part, firstAt, countAt, spanList, itemIn, itemList, Line, Index, within, told, bestOf};
+ghost use Rattle.network.specs.Tables.{laneAt, lanesFrom, Row, Rows, boxRow, boxIn, boxList, rangeRow, Added, Room, Built};
+ghost use Rattle.network.specs.Tables.{spanList, itemIn, itemList, Line, Index, within, told, bestOf};
 ghost use Rattle.network.specs.Tables.{CeilingIs, WinsIs, EnoughIs, MeasuredIs};
 ghost use Rattle.network.specs.Nearest.{offered, offeredIn, visitCell, visitRing, searched, gridFor, nearestOf};
 
@@ -131,9 +134,11 @@ fn add_lane(
     if !drives[kind] {
         return k;
     }
-    let from = 3 * lanes[6 * row + 4];
+    let from = lanes[6 * row + 4];
     let count = lanes[6 * row + 5];
-    let line = &points[from..from + 3 * count];
+    let a = 3 * from;
+    let e = 3 * (from + count);
+    let line = &points[a..e];
     let mut first = 0;
     let mut at = k;
     while first < count - 1 {
@@ -213,7 +218,7 @@ fn write_range(ranges: &mut [usize], k: usize, g: Grid, b: Aabb)
 // Writes the columns and rows of the first n boxes.
 fn write_ranges(boxes: &[f32], n: usize, g: Grid, ranges: &mut [usize])
     requires { ⌜ (4 * n ≤ length (now boxes)) × (4 * n ≤ length (now ranges)) × (0 < g .cols) × (0 < g .rows) ⌝ }
-    ensures { λ _. ⌜ now (ranges .exit) ≡ filled (rangeRow g) (boxList (now (boxes .entry)) n 0) 0 (now (ranges .entry)) ⌝ }
+    ensures { λ _. ⌜ now (ranges .exit) ≡ over (rows (rangeRow g) (boxList (now (boxes .entry)) n 0)) (now (ranges .entry)) ⌝ }
 {
     let mut i = 0;
     while i < n {
@@ -331,17 +336,15 @@ fn project(
     end: usize,
     p: Point,
 ) -> Projection
-    requires { ⌜ Line (now lanes) (now points) (now cumulative) row × (first < end) × (end < countAt (now lanes) row) ⌝ }
-    ensures { λ r. ⌜ r ≡ projectSegments
-        (part (now (points .entry)) (3 * firstAt (now (lanes .entry)) row) (3 * countAt (now (lanes .entry)) row))
-        (part (now (cumulative .entry)) (firstAt (now (lanes .entry)) row) (countAt (now (lanes .entry)) row)) p first end ⌝ }
+    requires { ⌜ Line (now lanes) (now points) (now cumulative) row × (first < end) × (end < pointCount (now lanes) row) ⌝ }
+    ensures { λ r. ⌜ r ≡ projectSegments (pointsOf (now (lanes .entry)) (now (points .entry)) row)
+        (arcsOf (now (lanes .entry)) (now (cumulative .entry)) row) p first end ⌝ }
 {
     let from = lanes[6 * row + 4];
-    let count = lanes[6 * row + 5];
-    let start = 3 * from;
-    let line = &points[start..start + 3 * count];
-    let arcs = &cumulative[from..from + count];
-    geometry::project_segments(line, arcs, p, first, end)
+    let to = from + lanes[6 * row + 5];
+    let a = 3 * from;
+    let e = 3 * to;
+    geometry::project_segments(&points[a..e], &cumulative[from..to], p, first, end)
 }
 
 // Span i against the best so far. A span whose box already loses is not measured.

@@ -6,11 +6,11 @@ use native.Mathlib.Nat.{le-of-suc-le-suc, not-suc-le-zero}
 use native.Mathlib.Omega.{arith}
 use lib.Ieee.{Float}
 use lib.ListN.{List·getD-append, drop, getD, length, length-append, length-drop, length-map, take}
-use lib.Seq.{drop-append-add, getD-append-add, getD-drop, length-take-le, take-at}
+use lib.Seq.{drop-append-add, getD-append-add, getD-drop, take-at}
 use Rattle.plan_format.specs.Plan.{Plan, laneCount, numberOf, placeLane, sectionCount}
 use Rattle.plan_format.specs.Reading.{sum}
 use Rattle.plan_format.specs.Records.{Lane, Link, Place, Section}
-use Rattle.plan_format.specs.Rows.{rows-drop, rows-length}
+use Rattle.lists.specs.Rows.{row-entry, rows-drop, rows-length}
 use Rattle.plan_format.specs.Tables.{boundRow, endRow, fanRow, group, laneRow, linkCount, linkRow, linked, planRows}
 use Rattle.plan_format.specs.Tables.{placeRow, pointRow, rows, rowsFrom, sectionRow, stationRow}
 use Rattle.plan.specs.Accepted.{Accepted}
@@ -43,18 +43,6 @@ module _ {X A : Type 0} (row : X → List A) where
       let a = length-append (row x) (rows row (take i xs)) in
       let n = s 0 (omega arith) in
       omega arith
-
-  -- rows of w entries each
-  pub row-entry : (w : ℕ) (xs : List X) (e : X) → ((j : ℕ) → j < length xs → length (row (getD xs j e)) ≡ w)
-      → (i k : ℕ) (d : A) → i < length xs → k < w → getD (rows row xs) (w * i + k) d ≡ getD (row (getD xs i e)) k d
-  row-entry w xs e s i k d h l =
-      let before = rows-before w (λ (x : X). 1) xs e (λ j m. let z = s j m in omega arith) i (omega arith) in
-      let ones = ones-sum (take i xs) in
-      let n = length-take-le i xs (omega arith) in
-      let size = s i h in
-      let at : w * i + k ≡ length (rows row (take i xs)) + k =
-      (let z : w * sum (map (λ (x : X). 1) (take i xs)) ≡ w * i = ap (λ (m : ℕ). w * m) (ones ∙ n) in omega arith) in
-      rw at (rows-get xs e i k d h (omega arith))
 
   -- rows with w entries for each of their count
   pub run-entry : (w : ℕ) (count : X → ℕ) (xs : List X) (e : X)

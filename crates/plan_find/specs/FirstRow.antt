@@ -1,5 +1,5 @@
 -- The first of n rows, from the i-th on, that a test takes; d where it takes none.
-use mathlib.Core.Bool.{Bool, cond, false, true, _&&_}
+use mathlib.Core.Bool.{Bool, cond, false, true}
 use mathlib.Core.List.{List}
 use mathlib.Core.Path.{ap, refl, sym, _∙_, _≡_}
 use Prim.Native.Nat.{suc, zero, ℕ, _*_, _+_, _-_, _<_, _≤_}
@@ -14,10 +14,6 @@ firstRow test (suc n) i d = cond (test i) i (firstRow test n (i + 1) d)
 -- row i of the table of lanes has this number
 abbrev pub isLane : List ℕ → ℕ → ℕ → Bool
 isLane t n i = eqb (getD t (6 * i) 0) n
-
--- row i of the table of sections has this road and index
-abbrev pub isSection : List ℕ → ℕ → ℕ → ℕ → Bool
-isSection t road index i = eqb (getD t (4 * i) 0) road && eqb (getD t (4 * i + 1) 0) index
 
 first-zero : (test : ℕ → Bool) (i d : ℕ) → firstRow test zero i d ≡ d
 unfolding firstRow

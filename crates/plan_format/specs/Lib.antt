@@ -7,7 +7,6 @@ pub mod Queries
 pub mod Keys
 pub mod Decodes
 pub mod Laws
-pub mod Filling
 pub mod Lookup
 pub mod Rows
 pub mod Samples

@@ -1,16 +1,15 @@
--- Laws of rows one after the other, for those who write them and for those who read them.
-use mathlib.Core.List.{List, [], map, _++_, _∷_}
-use mathlib.Core.Path.{ap, refl, _∙_, _≡_}
-use Prim.Native.Nat.{suc, zero, ℕ, _*_, _+_, _<_, _≤_}
-use native.Mathlib.Nat.{le-of-suc-le-suc, not-suc-le-zero}
+-- Laws of rows one after the other, for those who write them from where the records start.
+use mathlib.Core.List.{List, [], map, _++_}
+use mathlib.Core.Path.{ap, _∙_, _≡_}
+use Prim.Native.Nat.{ℕ, _+_, _<_, _≤_}
 use native.Mathlib.Omega.{arith}
-use lib.ListN.{drop, getD, length, length-append, take}
-use lib.Seq.{drop-append-add, sets}
-use Rattle.plan_format.specs.Filling.{Filling, fill-many, fill-room}
+use lib.ListN.{drop, getD, length, length-append}
+use lib.Seq.{sets}
+use Rattle.lists.specs.Filling.{Filling, fill-many, fill-room}
 use Rattle.plan_format.specs.Laws.{map-next, map-none}
 use Rattle.plan_format.specs.Tables.{rows, rowsFrom}
 
--- WRITING, from starts: what is left of the rows after the i-th start
+-- what is left of the rows after the i-th start
 module _ {X A : Type 0} (row : X → List A) (at : ℕ → X) (ps : List ℕ) (i : ℕ) where
   pub rows-split : i < length ps → rows row (map at (drop i ps)) ≡ row (at (getD ps i 0)) ++ rows row (map at (drop (i + 1) ps))
   unfolding rows
@@ -60,25 +59,3 @@ module _ {X : Type 0} (row : ℕ → X → List ℕ) (count : X → ℕ) (at : �
       fill-many ℕ old (row first (at (getD ps i 0))) out k rest (rowsFrom row count 0 (map at ps)) (rw (from-split h) at F)
       (omega arith) in
       rw (e, q) (rw l at G)
-
--- READING: the i-th element's row
-module _ {X A : Type 0} (row : X → List A) where
-  -- where it starts: after the rows of the elements before
-  pub rows-drop : (xs : List X) (d : X) (i : ℕ) → i < length xs
-      → drop (length (rows row (take i xs))) (rows row xs) ≡ row (getD xs i d) ++ rows row (drop (suc i) xs)
-  unfolding rows
-  rows-drop [] d i h = absurd (not-suc-le-zero h)
-  rows-drop (x ∷ xs) d zero h = refl
-  rows-drop (x ∷ xs) d (suc i) h =
-      let e = length-append (row x) (rows row (take i xs)) in
-      rw e (drop-append-add (row x) (rows row xs) (length (rows row (take i xs))) ∙ rows-drop xs d i (le-of-suc-le-suc h))
-
-  -- rows of w entries each
-  pub rows-length : (w : ℕ) → ((x : X) → length (row x) ≡ w) → (xs : List X) → length (rows row xs) ≡ w * length xs
-  unfolding rows
-  rows-length w e [] = omega arith
-  rows-length w e (x ∷ xs) =
-      let r = rows-length w e xs in
-      let a = length-append (row x) (rows row xs) in
-      let n = e x in
-      omega arith

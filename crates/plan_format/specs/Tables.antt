@@ -6,15 +6,11 @@ use lib.Dec.{eqb}
 use lib.Ieee.{Float, binary32, ofBits}
 use lib.ListN.{length, replicate}
 pub use Rattle.lists.specs.Over.{over}
+unfoldable pub use Rattle.lists.specs.Rows.{rows}
 use Rattle.plan_format.specs.Plan.{Plan, indexOf, laneCount, laneOf, numberOf, placeLane, placeSection, sectionCount, sectionOf}
 use Rattle.plan_format.specs.Records.{Lane, Link, Place, Section}
 
--- a row for each element, one after the other
-unfoldable pub rows : {X A : Type 0} → (X → List A) → List X → List A
-rows row [] = []
-rows row (x ∷ xs) = row x ++ rows row xs
-
--- the same, where a row also has the sum of the counts before it
+-- rows one after the other, where a row also has the sum of the counts before it
 unfoldable pub rowsFrom : {X : Type 0} → (ℕ → X → List ℕ) → (X → ℕ) → ℕ → List X → List ℕ
 rowsFrom row count first [] = []
 rowsFrom row count first (x ∷ xs) = row first x ++ rowsFrom row count (first + count x) xs

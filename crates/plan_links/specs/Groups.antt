@@ -6,9 +6,9 @@ use native.Mathlib.Omega.{arith}
 use lib.ListN.{drop, getD, length, length-map}
 use lib.Seq.{length-sets, sets}
 use Rattle.fields.specs.Fields.{u16At}
-use Rattle.plan_format.specs.Filling.{Filling, fill-many}
+use Rattle.lists.specs.Filling.{Filling, fill-many}
 use Rattle.plan_format.specs.Laws.{drop-next, drop-none}
-use Rattle.plan_format.specs.Rows.{rows-length}
+use Rattle.lists.specs.Rows.{rows-length}
 use Rattle.plan_links.specs.Chains.{linkKey, linksOf, rowBy, rowsOf, startAt, tally, tally-le, tally-three}
 
 module _ (s m links : List ℕ) where

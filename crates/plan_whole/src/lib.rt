@@ -2,7 +2,7 @@
 // The lists `lanes`, `links`, `sections`, `places` have where the records of each kind start.
 ghost use mathlib.Core.Path.{_≡_};
 ghost use mathlib.Core.List.{[], map};
-ghost use Prim.Native.Nat.{_+_, _≤_, _<_};
+ghost use Prim.Native.Nat.{_+_, _*_, _≤_, _<_};
 ghost use lib.ListN.{length, getD, take, drop};
 ghost use Rattle.fields.specs.Fields.{u16At};
 ghost use Rattle.plan_format.specs.Laws.{Each, Room};
@@ -16,13 +16,22 @@ ghost use Rattle.plan_whole.specs.Missing.{fromMissingBy, misplacedIn, S
 ghost use Rattle.plan_whole.specs.Whole.{wholeIn};
 use fields::u16_at;
 use fields::u32_at;
+use plan_format::RoadId;
+
+// The key of a road's section. Sections are found by it alone, so a lane's number never finds one.
+fn section_key(road: RoadId, index: usize) -> usize
+    requires { ⌜ (road .0 < 65536) × (index < 65536) ⌝ }
+    ensures { λ r. ⌜ r ≡ road .0 * 65536 + index ⌝ }
+{
+    road.0 * 65536 + index
+}
 
 // A road with index, as one number.
 pub fn pair(file: &[u8], at: usize) -> usize
     requires { ⌜ at + 4 ≤ length (now file) ⌝ }
     ensures { λ r. ⌜ (r ≡ pairAt (now (file .entry)) at) × (r < 4294967296) ⌝ }
 {
-    u16_at(file, at) * 65536 + u16_at(file, at + 2)
+    section_key(RoadId(u16_at(file, at)), u16_at(file, at + 2))
 }
 
 // An OpenDRIVE lane number plus 2^31.

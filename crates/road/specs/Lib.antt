@@ -1,5 +1,4 @@
 -- Road stations and how far along a lane they are.
-pub mod Section
 pub mod Along
 pub mod AlongLaws
 pub mod Cases

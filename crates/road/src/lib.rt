@@ -6,40 +6,12 @@ ghost use Prim.Native.Nat.{_+_, _*_, _<_};
 ghost use lib.ListN.{length};
 ghost use Rattle.geometry.specs.Partition.{leading, atMost, Rising};
 ghost use Rattle.geometry.specs.Locate.{segmentOf};
-ghost use Rattle.road.specs.Section.{sectionAt};
 ghost use Rattle.road.specs.Along.{Stationed, fractionAt, alongOf, shortOf, reachedBy, partOf, stationOn, stationOf, centerlineOf};
-
-// A lane section of a road: where it starts and ends, and its rows among the stations.
-pub struct RoadSection {
-    pub road: usize,
-    pub index: usize,
-    pub first: usize,
-    pub stations: usize,
-    pub start: f64,
-    pub end: f64,
-}
 
 // How far along the centerline a station is, or that it is off the section.
 pub enum OnLane {
     At(f32),
     Off,
-}
-
-// Section i of the tables.
-pub fn section(sections: &[usize], bounds: &[f64], i: usize) -> RoadSection
-    requires { ⌜ (4 * i + 3 < length (now sections)) × (2 * i + 1 < length (now bounds)) ⌝ }
-    ensures { λ r. ⌜ r ≡ sectionAt (now (sections .entry)) (now (bounds .entry)) i ⌝ }
-{
-    let k = 4 * i;
-    let b = 2 * i;
-    RoadSection {
-        road: sections[k],
-        index: sections[k + 1],
-        first: sections[k + 2],
-        stations: sections[k + 3],
-        start: bounds[b],
-        end: bounds[b + 1],
-    }
 }
 
 // How many stations at the front are at most s.

@@ -9,15 +9,12 @@ use lib.Dec.{T}
 use lib.Ieee.{Float, binary32, fin, le, nan, ofBits}
 use lib.IntN.{pos}
 use lib.ListN.{getD, length, take}
-use Rattle.coords.specs.declared.Point.{Point}
 use Rattle.exact.specs.Sums.{LinkCost}
 use Rattle.geometry.specs.Partition.{Rising}
 use Rattle.geometry.specs.Polyline.{Line, arcLength}
 use Rattle.geometry.specs.PolylineLaws.{length-cumulative, length-tangents}
-use Rattle.geometry.specs.Project.{projectSegments}
 use Rattle.geometry_laws.proofs.Cumulative.{cumulative-rises, length-cost}
-use Rattle.geometry_laws.proofs.Projected.{projected}
-use Rattle.geometry_laws.specs.Range.{Coordinates, InRange, Landed}
+use Rattle.geometry_laws.specs.Range.{Coordinates, InRange}
 use Rattle.plan.specs.Accepted.{Accepted}
 use Rattle.plan.specs.Rows.{lane-entry, points-end, points-part, points-size, run-part, runs-length}
 use Rattle.plan_format.specs.Laws.{and-fst, and-snd}
@@ -168,10 +165,3 @@ module _ (p : Plan) (A : Accepted p) (i : ℕ) (e : Lane) (h : i < length (p .la
       let s = A .lane i e h .size in
       let t = A .lane i e h .two in
       length-cost (l .points) coordinates (l .count) (omega (arith, few)) (omega arith) (omega arith)
-
-  -- a point, whatever its coordinates, projects onto the segments first .. end - 1 at finite coordinates and a finite arc length
-  pub landed : (q : Point) (first end : ℕ) → first < l .count → end < l .count
-      → Landed (projectSegments (l .points) (cumulativeRow l) q first end)
-  landed q first end a b =
-      let s = A .lane i e h .size in
-      projected (l .points) (l .count) coordinates few (omega arith) q first end a b

@@ -17,7 +17,7 @@ use Rattle.plan.specs.Accepted.{Accepted, accepted-plan}
 use Rattle.plan.specs.Links.{links-all}
 use Rattle.plan.specs.Rows.{bounds-size, end-entry, ends-size, fans-size, lanes-size, places-size, points-size}
 use Rattle.plan.specs.Rows.{sections-size, stations-size}
-use Rattle.plan_format.specs.Filling.{over-front}
+use Rattle.lists.specs.Over.{over-front}
 use Rattle.plan_format.specs.Laws.{Bytes}
 use Rattle.plan_format.specs.Plan.{Decoded, Plan, Starts, Walked, accepted, countsOf, decode, ended, judged, lacks, laneCount, planOf}
 use Rattle.plan_format.specs.Plan.{recordNumber, refused, sectionCount, settled, stopped, twice, walk, walked}

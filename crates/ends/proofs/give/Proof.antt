@@ -66,7 +66,8 @@ returns-2 c =
       omega arith,
       given-new (a .a) (foundOf (a .n) (a .placings .now) (a .cases .now) (a .metres .now)) (placing-of .result) (placing-of .ensures)
           (holds-placing .result) (holds-placing .ensures) (if1 .left) _ _ (put-placing .ensures)
-          (advance-put (a .cases .now) (a .metres .now) (a .n) (a .a) (omega (arith, pre .0, r .case-room)) (omega (arith, pre .0, r .metre-room)) _ _ (write-advance .ensures .0) (write-advance .ensures .1)),
+          (advance-put (a .cases .now) (a .metres .now) (a .n) (a .a) (omega (arith, pre .0, r .case-room))
+          (omega (arith, pre .0, r .metre-room)) _ _ (write-advance .ensures .0) (write-advance .ensures .1)),
     )
 
 pub give-spec : {M : Type 1} → statement M

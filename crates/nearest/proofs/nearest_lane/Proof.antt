@@ -1,7 +1,7 @@
 -- `nearest_lane` refuses a point that is not finite, asks for the nearest row, and reads its lane's number.
 use mathlib.Core.Path.{sym, _∙_}
 use native.Mathlib.Omega.{arith}
-use Rattle.nearest.proofs.Answer.{none-found, not-finite, one-found, row-below}
+use Rattle.nearest.specs.Answer.{none-found, not-finite, one-found, row-below}
 use borrow.Author.Needs.{needs}
 use Rattle.nearest.proofs.nearest_lane.Statement.{statement}
 use Rattle.nearest.proofs.nearest_lane.Tie as tie

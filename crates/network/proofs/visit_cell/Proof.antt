@@ -44,8 +44,8 @@ loop-again c =
     let less : n - (l .i + 1) ≡ n - l .i - 1 = omega arith in (
       omega arith,
       rw less
-          (cell-next (a .lanes .now) (a .points .now) (a .cumulative .now) (a .spans .now) (a .boxes .now) (a .ranges .now) (a .index) (a .p) (a .cell)
-          (n - l .i) (l .i) (bestOf (a .lanes .now) (a .points .now) (l .b)) _ _ (omega arith) (c .offer .ensures) (l .inv .1)),
+          (cell-next (a .lanes .now) (a .points .now) (a .cumulative .now) (a .spans .now) (a .boxes .now) (a .ranges .now) (a .index)
+          (a .p) (a .cell) (n - l .i) (l .i) (bestOf (a .lanes .now) (a .points .now) (l .b)) _ _ (omega arith) (c .offer .ensures) (l .inv .1)),
     )
 
 returns : tie.Need-returns Inv-loop μ-loop

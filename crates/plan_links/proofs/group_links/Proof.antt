@@ -6,7 +6,7 @@ use native.Mathlib.Omega.{arith}
 use lib.ListN.{drop, length}
 use lib.Seq.{length-sets, sets}
 use borrow.Author.Needs.{needs}
-use Rattle.plan_format.specs.Filling.{Filling, fill-end, fill-start}
+use Rattle.lists.specs.Filling.{Filling, fill-end, fill-start}
 use Rattle.plan_links.specs.Chains.{linkKey, rowsOf, tally}
 use Rattle.plan_links.specs.Groups.{fans-end, fans-next, fansIn, group-room, groups-end, groups-next, groupsIn, sets-long, tally-next}
 use Rattle.plan_links.proofs.group_links.Statement.{statement}

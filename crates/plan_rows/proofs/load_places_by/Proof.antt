@@ -6,7 +6,7 @@ use native.Mathlib.Omega.{arith}
 use lib.ListN.{drop, getD, length}
 use lib.Seq.{length-sets, sets}
 use borrow.Author.Needs.{needs}
-use Rattle.plan_format.specs.Filling.{Filling, fill-end, fill-start}
+use Rattle.lists.specs.Filling.{Filling, fill-end, fill-start}
 use Rattle.plan_format.specs.Plan.{Plan, planOf}
 use Rattle.plan_format.specs.Records.{placeAt}
 use Rattle.plan_format.specs.Rows.{rows-end, rows-next}

@@ -5,7 +5,7 @@ use Prim.Native.Nat.{ℕ, _+_, _-_, _<_, _≤_}
 use native.Mathlib.Omega.{arith}
 use lib.ListN.{drop, getD, length, length-set, set}
 use borrow.Author.Needs.{needs}
-use Rattle.plan_format.specs.Filling.{Filling, fill-end, fill-one, fill-start}
+use Rattle.lists.specs.Filling.{Filling, fill-end, fill-one, fill-start}
 use Rattle.plan_format.specs.Laws.{map-next, map-none}
 use Rattle.plan_whole.specs.Keys.{keyAt}
 use Rattle.plan_whole.proofs.collect_keys.Statement.{statement}

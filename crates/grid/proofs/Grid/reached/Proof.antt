@@ -1,4 +1,4 @@
--- `Grid::reached` compares with the square of the distance that `floorOf` says.
+-- `Grid::reached` compares with the square of the distance that `ringFloor` says.
 use Rattle.grid.specs.Ring.{reachedAt}
 use borrow.Author.Needs.{needs}
 use Rattle.grid.proofs.Grid.reached.Statement.{statement}

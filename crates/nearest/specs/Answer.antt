@@ -8,7 +8,7 @@ use lib.ListN.{getD}
 use Rattle.coords.specs.Coords.{finitePoint}
 use Rattle.coords.specs.declared.Point.{Point}
 use Rattle.geometry.specs.declared.Projection.{Projection}
-use Rattle.network.proofs.Found.{Of, Standing, found-stands}
+use Rattle.network.specs.Found.{Of, Standing, found-stands}
 use Rattle.network.specs.Lanes.{Lane, drivesTable}
 use Rattle.network.specs.Nearest.{Best, found, nearestLane, none}
 use Rattle.network.specs.Tables.{laneAt, lanesFrom, told}

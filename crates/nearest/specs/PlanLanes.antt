@@ -1,12 +1,12 @@
 -- The rows of an accepted plan hold its lanes, and may be asked.
 use mathlib.Core.List.{List, [], map, _∷_}
 use mathlib.Core.Path.{ap, ap₂, refl, sym, _∙_, _≡_}
-use Prim.Native.Nat.{suc, zero, ℕ, _*_, _+_, _-_, _<_, _≤_}
+use Prim.Native.Nat.{suc, zero, ℕ, _+_, _<_, _≤_}
 use native.Mathlib.Omega.{arith}
-use lib.ListN.{drop, drop-of-length-le, getD, length, take}
+use lib.ListN.{drop, drop-of-length-le, getD, length}
 use lib.Seq.{drop-cons}
 use Rattle.geometry.specs.Polyline.{cumulativeOf}
-use Rattle.network.proofs.Limits.{max-spans, pointCount}
+use Rattle.network.specs.Limits.{max-spans, pointTotal}
 use Rattle.network.specs.Lanes.{Lane, driving, drivesTable}
 use Rattle.network.specs.Tables.{Row, laneAt, lanesFrom}
 use Rattle.plan.specs.Accepted.{Accepted}
@@ -15,6 +15,7 @@ use Rattle.plan_format.specs.Plan.{Plan, laneCount}
 use Rattle.plan_format.specs.Reading.{sum}
 use Rattle.plan_format.specs.Records as records
 use Rattle.plan_format.specs.Tables.{planRows}
+use Rattle.rows.specs.Rows.{arcsOf, pointCount, pointsOf}
 use Rattle.tables.specs.LaneTables.{laneRows, noLane}
 use Rattle.tables.specs.Lines.{arcs-are, arcs-within, count-is, number-is, points-are, points-within, type-is}
 use Rattle.nearest.specs.Nearest.{Searchable, lanesAfter, lanesOf, rowLane}
@@ -24,24 +25,15 @@ unfolding lanesAfter
 after-length row [] = refl
 after-length row (l ∷ ls) = ap suc (after-length (suc row) ls)
 
-after-points : (row : ℕ) (ls : List records.Lane) → pointCount (lanesAfter row ls) ≡ sum (map laneCount ls)
-unfolding lanesAfter pointCount sum
+after-points : (row : ℕ) (ls : List records.Lane) → pointTotal (lanesAfter row ls) ≡ sum (map laneCount ls)
+unfolding lanesAfter pointTotal sum
 after-points row [] = refl
 after-points row (l ∷ ls) = ap (λ (n : ℕ). l .count + n) (after-points (suc row) ls)
 
 module _ (p : Plan) (A : Accepted p) where
   module _ (i : ℕ) (h : i < length (p .lanes)) where
-    abbrev first : ℕ
-    first = getD (planRows p .lanes) (6 * i + 4) 0
-
-    abbrev count : ℕ
-    count = getD (planRows p .lanes) (6 * i + 5) 0
-
     abbrev l : records.Lane
     l = getD (p .lanes) i noLane
-
-    line-is : take (3 * count) (drop (3 * first) (planRows p .points)) ≡ l .points
-    line-is = let n : 3 * (first + count) - 3 * first ≡ 3 * count = omega arith in rw n at (points-are p A i noLane h)
 
     lane-is : laneAt (planRows p .lanes) (planRows p .points) i ≡ rowLane i l
     unfolding laneAt
@@ -49,7 +41,7 @@ module _ (p : Plan) (A : Accepted p) where
         let number = number-is p A i noLane h in
         let type = type-is p A i noLane h in
         let many = count-is p A i noLane h in
-        let line = line-is in
+        let line = points-are p A i noLane h in
         rw (line, number, type, many) refl
 
     row-is : Row (planRows p .lanes) (planRows p .points) drivesTable i
@@ -63,10 +55,9 @@ module _ (p : Plan) (A : Accepted p) where
         let within = points-within p A i noLane h in
         record { inTable = omega arith; kind = omega arith; two = omega arith; within = omega arith }
 
-    arcs-at : take count (drop first (laneRows p .cumulative)) ≡ cumulativeOf (take (3 * count) (drop (3 * first) (planRows p .points))) count
-    arcs-at =
-        let n : first + count - first ≡ count = omega arith in
-        (rw n at (arcs-are p A i noLane h)) ∙ ap₂ cumulativeOf (sym line-is) (sym (count-is p A i noLane h))
+    arcs-at : arcsOf (planRows p .lanes) (laneRows p .cumulative) i
+        ≡ cumulativeOf (pointsOf (planRows p .lanes) (planRows p .points) i) (pointCount (planRows p .lanes) i)
+    arcs-at = arcs-are p A i noLane h ∙ ap₂ cumulativeOf (sym (points-are p A i noLane h)) (sym (count-is p A i noLane h))
 
   lanes-from : (k i : ℕ) → i + k ≡ length (p .lanes)
       → lanesFrom (planRows p .lanes) (planRows p .points) k i ≡ lanesAfter i (drop i (p .lanes))

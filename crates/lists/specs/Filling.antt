@@ -4,10 +4,9 @@ use mathlib.Core.Path.{ap, refl, subst, sym, _∙_, _≡_}
 use Prim.Native.Nat.{suc, ℕ, _+_, _<_, _≤_}
 use native.Mathlib.Numerals.{add-one}
 use native.Mathlib.Omega.{arith}
-use lib.ListN.{length, length-append, set}
-use lib.Seq.{sets}
-use Rattle.lists.specs.Over.{over, over-next}
-pub use Rattle.lists.specs.Over.{over-front, over-past}
+use lib.ListN.{drop, length, length-append, set, take, take-append-drop}
+use lib.Seq.{length-take-le, sets}
+use Rattle.lists.specs.Over.{over, over-length, over-next, over-placed, over-taken, placed}
 
 -- A table that held `old`: its first k entries are written, and what is yet to come completes `whole`.
 pub record Filling (A : Type 0) (old out : List A) (k : ℕ) (rest whole : List A) : Type 0 where
@@ -20,7 +19,21 @@ module _ (A : Type 0) (old : List A) where
   pub fill-start : (whole : List A) → Filling A old old 0 whole whole
   fill-start whole = record { done = []; size = refl; is = refl; all = refl }
 
+  -- a table whose first k entries are there already
+  pub fill-from : (k : ℕ) (xs : List A) → k ≤ length old → Filling A old old k xs (take k old ++ xs)
+  fill-from k xs h =
+      let n = length-take-le k old h in
+      record {
+        done = take k old;
+        size = n;
+        is = sym (ap (λ (j : ℕ). take k old ++ drop j old) n ∙ take-append-drop k old);
+        all = refl;
+      }
+
   module _ (out : List A) (k : ℕ) (rest whole : List A) where
+    pub fill-length : Filling A old out k rest whole → k ≤ length old → length out ≡ length old
+    fill-length F h = ap length (F .is) ∙ over-length (F .done) old (omega (arith, F .size))
+
     pub fill-room : Filling A old out k rest whole → k + length rest ≡ length whole
     fill-room F =
         let e = ap length (F .all) in
@@ -39,6 +52,22 @@ module _ (A : Type 0) (old : List A) where
 
     pub fill-end : Filling A old out k rest whole → rest ≡ [] → out ≡ over whole old
     fill-end F e = F .is ∙ ap (λ (x : List A). over x old) (sym (append-nil (F .done)) ∙ ap (λ (r : List A). F .done ++ r) (sym e) ∙ F .all)
+
+  -- entries written by another from the k-th on
+  pub fill-placed : (xs out next : List A) (k : ℕ) (rest whole : List A) → Filling A old out k (xs ++ rest) whole → next ≡ placed k xs out
+      → Filling A old next (k + length xs) rest whole
+  fill-placed xs out next k rest whole F e =
+      record {
+        done = F .done ++ xs;
+        size = length-append (F .done) xs ∙ ap (λ (n : ℕ). n + length xs) (F .size);
+        is = e ∙ ap (placed k xs) (F .is) ∙ over-placed (F .done) xs old k (F .size);
+        all = append-assoc (F .done) xs rest ∙ F .all;
+      }
+
+  -- the end of what was written after the first j entries
+  pub fill-placed-end : (out : List A) (j k : ℕ) (rest xs : List A) → Filling A old out k rest (take j old ++ xs) → rest ≡ [] → j ≤ length old
+      → out ≡ placed j xs old
+  fill-placed-end out j k rest xs F e h = fill-end out k rest (take j old ++ xs) F e ∙ over-taken j xs old h
 
   pub fill-many : (vs out : List A) (k : ℕ) (rest whole : List A) → Filling A old out k (vs ++ rest) whole → k + length vs ≤ length old
       → Filling A old (sets out k vs) (k + length vs) rest whole
