@@ -3,6 +3,7 @@ use mathlib.Core.Bool.{Bool, false, true}
 use mathlib.Core.List.{List, [], append-assoc, append-nil, _++_, _∷_}
 use mathlib.Core.Path.{ap, refl, sym, _∙_, _≡_}
 use Prim.Native.Nat.{suc, zero, ℕ, _%_, _+_, _-_, _/_, _<_, _^_, _≤_}
+use native.Mathlib.Nat.{div-div-eq-div-mul}
 use native.Mathlib.Numerals.{add-one}
 use native.Mathlib.Omega.{arith}
 use lib.Dec.{ltb}
@@ -113,3 +114,21 @@ puts-hex n at old ea eb ec ed ee ef eg eh =
     let u : at + 6 ≡ suc (suc (suc (suc (suc (suc at))))) = omega arith in
     let v : at + 7 ≡ suc (suc (suc (suc (suc (suc (suc at)))))) = omega arith in
     record { is = rw (p, q, r, s, t, u, v, ea, eb, ec, ed, ee, ef, eg, eh, one); after = refl }
+
+-- a digit of the lower half is one of the whole
+low-digits : (n : ℕ) → (n % 4294967296 / 268435456 % 16 ≡ n / 268435456 % 16)
+    × (n % 4294967296 / 16777216 % 16 ≡ n / 16777216 % 16)
+    × (n % 4294967296 / 1048576 % 16 ≡ n / 1048576 % 16)
+    × (n % 4294967296 / 65536 % 16 ≡ n / 65536 % 16)
+    × (n % 4294967296 / 4096 % 16 ≡ n / 4096 % 16)
+    × (n % 4294967296 / 256 % 16 ≡ n / 256 % 16)
+    × (n % 4294967296 / 16 % 16 ≡ n / 16 % 16)
+    × (n % 4294967296 / 1 % 16 ≡ n / 1 % 16)
+low-digits n = (omega arith, omega arith, omega arith, omega arith, omega arith, omega arith, omega arith, omega arith)
+
+-- sixteen digits are those of the upper half, then those of the lower
+pub hex-halves : (n : ℕ) → hexOf 8 (n / 4294967296) ++ hexOf 8 (n % 4294967296) ≡ hexOf 16 n
+unfolding hexOf
+hex-halves n =
+    let e = low-digits n in
+    simp (div-div-eq-div-mul, e .0, e .1, e .2, e .3, e .4, e .5, e .6, e .7)

@@ -41,7 +41,7 @@ unfoldable pub singleOf : Float → List ℕ
 singleOf x = hexOf 8 (toBits binary32 x)
 
 unfoldable pub doubleOf : Float → List ℕ
-doubleOf x = hexOf 8 (toBits binary64 x / 4294967296) ++ hexOf 8 (toBits binary64 x % 4294967296)
+doubleOf x = hexOf 16 (toBits binary64 x)
 
 -- ---- worked cases
 

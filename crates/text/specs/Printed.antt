@@ -34,6 +34,21 @@ unfolding bytes planLine routeText routeLine laneLines laneLine pointLines point
     placesBy singleOf hexOf toBits ofBits
 printed-case = refl
 
+-- an empty file, a refused file
+plan-lines : planLine 0 0 0 ++ planLine 3 0 0 ≡ bytes "plan 0 0 0\nplan 3 0 0\n"
+unfolding bytes planLine newline numberField decimalOf digitsOf places placesBy
+plan-lines = refl
+
+refused-route : routeText 11 0 0 (single 0) [] [] ≡ bytes "route 11 0 0 00000000\n"
+unfolding bytes routeText routeLine laneLines pointLines newline numberField singleField decimalOf digitsOf places placesBy singleOf hexOf toBits
+    ofBits
+refused-route = refl
+
+-- no keys for 14 too
+refused-advance : advanceText 14 0 0 [] [] ≡ bytes "advance 14 0 0\n"
+unfolding bytes advanceText advanceLine positionLines newline numberField decimalOf digitsOf places placesBy
+refused-advance = refl
+
 -- a refused beside prints a position of zeros
 refused-beside : besideText 15 0 (double 0) (double 0) ≡ bytes "beside 15\nat 0 0000000000000000 0000000000000000\n"
 unfolding bytes besideText besideLine atLine newline numberField doubleField decimalOf digitsOf places placesBy doubleOf hexOf toBits ofBits

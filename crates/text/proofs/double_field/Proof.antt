@@ -3,6 +3,8 @@ use borrow.Author.Needs.{needs}
 use lib.ListN.{length-set}
 use mathlib.Core.Path.{_∙_}
 use native.Mathlib.Omega.{arith}
+use lib.Ieee.{binary64, toBits}
+use Rattle.text.specs.Counting.{hex-halves}
 use Rattle.text.specs.Lines.{doubleField}
 use Rattle.text.specs.Numerals.{doubleOf}
 use Rattle.text.specs.Put.{puts-length, puts-one, puts-then}
@@ -40,7 +42,8 @@ returns c =
     let high = c .before .before .before .before .before .before .hex .ensures in
     let low = c .before .before .hex2 .ensures in
     let a = c .before .before .before .before .before .before .before .before .before .before .args in
-    (puts-then (puts-one (a .out .now) (a .at) 32) (puts-then (rw bits at (high .0)) (rw bits at (low .0))), omega arith)
+    let both = puts-then (rw bits at (high .0)) (rw bits at (low .0)) in
+    (puts-then (puts-one (a .out .now) (a .at) 32) (rw (hex-halves (toBits binary64 (a .x))) at both), omega arith)
 
 pub double-field-spec : {M : Type 1} → statement M
 double-field-spec =
