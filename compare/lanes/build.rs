@@ -1,9 +1,7 @@
-//! Links the proved calls: `rt staticlib lanes_c` and `rt staticlib queries_c` write them to target/staticlib.
+//! Links the queries over a plan's rows: `rt staticlib queries_c` writes them to target/staticlib. The crate kartsodi links the public calls.
 fn main() {
     let root = std::path::Path::new(env!("CARGO_MANIFEST_DIR")).join("../../target/staticlib");
     println!("cargo:rustc-link-search=native={}", root.display());
-    for name in ["lanes_c", "queries_c"] {
-        println!("cargo:rustc-link-lib=static={name}");
-        println!("cargo:rerun-if-changed={}", root.join(format!("lib{name}.a")).display());
-    }
+    println!("cargo:rustc-link-lib=static=queries_c");
+    println!("cargo:rerun-if-changed={}", root.join("libqueries_c.a").display());
 }

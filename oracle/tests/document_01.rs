@@ -125,6 +125,9 @@ fn limits_of_answers() {
     assert_eq!(number("points-4096"), "route 0 1 4096 00000000");
     assert_eq!(number("points-4097"), "route 14 0 0 00000000");
     assert_eq!(number("chain-257"), "route 0 257 512 44800000");
+    let text = printed("longest-answer");
+    let routes: Vec<&str> = text.lines().filter(|line| line.starts_with("route")).collect();
+    assert_eq!(routes, ["route 0 257 4096 46000000", "route 14 0 0 00000000"]);
 }
 
 #[test]

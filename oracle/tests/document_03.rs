@@ -37,6 +37,26 @@ fn printing() {
 }
 
 #[test]
+fn refused_queries_print_zeros() {
+    // 4 and 24: each number of a query, in order; 9 before 10, and 12 before 13.
+    let heads = |name: &str| -> String {
+        let text = print::run(&case(name).file);
+        let number = |line: &str| line.split(' ').nth(1).unwrap_or_default().to_string();
+        let heads = text.lines().filter(|line| line.starts_with(['r', 'a', 'b']) && !line.starts_with("at"));
+        heads.map(number).collect::<Vec<_>>().join(" ")
+    };
+    let (nine, twelve) = (["9"; 6].join(" "), ["12"; 18].join(" "));
+    assert_eq!(heads("junction-refused-queries"), format!("0 0 {nine} 11 {twelve} 13 13 13 15 15 0 0"));
+    assert_eq!(heads("junction-empty-queries"), format!("10 12 {nine} 10 {twelve} 12 12 12 12 12 10 12"));
+    assert_eq!(heads("junction-nothing-drives"), "10 9 0");
+    let text = print::run(&case("junction-refused-queries").file);
+    for refused in ["route 9 0 0 00000000\n", "route 11 0 0 00000000\n", "advance 12 0 0\n", "advance 13 0 0\n"] {
+        assert!(text.contains(refused), "{refused}");
+    }
+    assert!(text.contains("beside 12\nat 0 0000000000000000 0000000000000000\n"));
+}
+
+#[test]
 fn numbers_2_to_6() {
     let expected = [
         ("size-65536", 0),

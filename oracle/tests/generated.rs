@@ -144,12 +144,12 @@ fn last_line(script: &str, arguments: &[&str]) -> String {
 #[test]
 fn replay_counts() {
     let program = env!("CARGO_BIN_EXE_oracle-run");
-    assert_eq!(last_line("replay", &[program]), "409 passed, 0 failed");
-    assert_eq!(last_line("replay", &["--query", &format!("{program} --query /dev/stdin")]), "152 passed, 0 failed");
+    assert_eq!(last_line("replay", &[program]), "413 passed, 0 failed");
+    assert_eq!(last_line("replay", &["--query", &format!("{program} --query /dev/stdin")]), "156 passed, 0 failed");
     // It prints what it should, and then fails.
     let failing = Path::new(env!("CARGO_TARGET_TMPDIR")).join("failing");
     std::fs::write(&failing, format!("{program}\nexit 3\n")).unwrap();
-    assert_eq!(last_line("replay", &[&format!("sh {}", failing.display())]), "0 passed, 409 failed");
+    assert_eq!(last_line("replay", &[&format!("sh {}", failing.display())]), "0 passed, 413 failed");
 }
 
 #[test]

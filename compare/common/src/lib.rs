@@ -1,6 +1,7 @@
-//! What the comparisons with the oracle have in common: floats compared by their bits, all NaNs as one, the tables of a plan, and draws.
+//! What the comparisons with the oracle have in common: floats compared by their bits, all NaNs as one, the tables of a plan, plans and draws.
 
 pub mod draw;
+pub mod plans;
 pub mod tables;
 
 pub fn same32(a: f32, b: f32) -> bool {

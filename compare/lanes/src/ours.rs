@@ -2,6 +2,8 @@
 
 use crate::answer::{Answer, Lists};
 use compare_common::tables::{Counts, Tables};
+use kartsodi::lent::{self, Advanced, BesideAnswer, NearestAnswer, Posed, RouteAnswer};
+use kartsodi::{LaneId, LanePosition, Point, Projection};
 use kartsodi_oracle::reader::Query;
 
 #[repr(C)]
@@ -9,44 +11,6 @@ use kartsodi_oracle::reader::Query;
 struct Read {
     number: usize,
     counts: Counts,
-}
-
-/// A point or a vector.
-#[repr(C)]
-#[derive(Clone, Copy)]
-struct Point {
-    x: f32,
-    y: f32,
-    z: f32,
-}
-
-#[repr(C)]
-struct Posed {
-    number: usize,
-    position: Point,
-    heading: Point,
-}
-
-#[repr(C)]
-struct Nearest {
-    number: usize,
-    lane: usize,
-    projection: Projection,
-}
-
-#[repr(C)]
-#[derive(Clone, Copy)]
-struct Position {
-    lane: usize,
-    s: f64,
-    offset: f64,
-}
-
-#[repr(C)]
-struct Projection {
-    s: f32,
-    point: Point,
-    offset: f32,
 }
 
 #[repr(C)]
@@ -73,27 +37,6 @@ struct Hit {
     span: usize,
     row: usize,
     projection: Projection,
-}
-
-#[repr(C)]
-struct Beside {
-    number: usize,
-    at: Position,
-}
-
-#[repr(C)]
-struct Routed {
-    number: usize,
-    lanes: usize,
-    points: usize,
-    length: f32,
-}
-
-#[repr(C)]
-struct Advanced {
-    number: usize,
-    keys: usize,
-    positions: usize,
 }
 
 extern "C" {
@@ -137,7 +80,7 @@ extern "C" {
         links: *const usize, links_len: usize,
         chain: *mut usize, chain_len: usize,
         places: *mut f32, places_len: usize,
-    ) -> Routed;
+    ) -> RouteAnswer;
     fn kartsodi_advance_rows(
         lanes: *const usize, lanes_len: usize, n: usize,
         points: *const f32, points_len: usize,
@@ -148,7 +91,7 @@ extern "C" {
         bounds: *const f64, bounds_len: usize,
         stations: *const f64, stations_len: usize,
         places: *const usize, places_len: usize, m: usize,
-        from: Position, distance: f64,
+        from: LanePosition, distance: f64,
         rows: *mut usize, rows_len: usize,
         positions: *mut f64, positions_len: usize,
     ) -> Advanced;
@@ -157,20 +100,26 @@ extern "C" {
         fans: *const usize, fans_len: usize,
         places: *const usize, places_len: usize, m: usize,
         bounds: *const f64, bounds_len: usize,
-        at: Position, side: usize,
-    ) -> Beside;
+        at: LanePosition, side: usize,
+    ) -> BesideAnswer;
 }
 
 fn point([x, y, z]: [f32; 3]) -> Point {
     Point { x, y, z }
 }
 
-fn nearest(lane: usize, p: Projection) -> Answer {
-    let floats = [p.s, p.point.x, p.point.y, p.point.z, p.offset, 0.0].map(f64::from);
-    Answer { number: 0, wholes: [lane, 0], floats }
+fn posed(p: Posed) -> Answer {
+    let (a, b) = (p.pose.position, p.pose.heading);
+    Answer { number: p.number, wholes: [0; 2], floats: [a.x, a.y, a.z, b.x, b.y, b.z].map(f64::from) }
 }
 
-fn routed(r: Routed) -> Answer {
+fn nearest(n: NearestAnswer) -> Answer {
+    let p = n.projection;
+    let floats = [p.s, p.point.x, p.point.y, p.point.z, p.offset, 0.0].map(f64::from);
+    Answer { number: n.number, wholes: [n.lane.0, 0], floats }
+}
+
+fn routed(r: RouteAnswer) -> Answer {
     let mut floats = [0.0; 6];
     floats[0] = r.length.into();
     Answer { number: r.number, wholes: [r.lanes, r.points], floats }
@@ -180,195 +129,46 @@ fn advanced(a: Advanced) -> Answer {
     Answer { number: a.number, wholes: [a.keys, a.positions], ..Answer::default() }
 }
 
-fn beside(b: Beside) -> Answer {
+fn beside(b: BesideAnswer) -> Answer {
     let mut floats = [0.0; 6];
     floats[..2].copy_from_slice(&[b.at.s, b.at.offset]);
-    Answer { number: b.number, wholes: [b.at.lane, 0], floats }
+    Answer { number: b.number, wholes: [b.at.lane.0, 0], floats }
 }
 
-fn posed(p: Posed) -> Answer {
-    let (a, b) = (p.position, p.heading);
-    Answer { number: p.number, wholes: [0; 2], floats: [a.x, a.y, a.z, b.x, b.y, b.z].map(f64::from) }
+fn lend(t: &mut Tables) -> lent::Tables<'_> {
+    lent::Tables {
+        lanes: &mut t.lanes,
+        points: &mut t.points,
+        ends: &mut t.ends,
+        fans: &mut t.fans,
+        links: &mut t.links,
+        sections: &mut t.sections,
+        bounds: &mut t.bounds,
+        stations: &mut t.stations,
+        places: &mut t.places,
+        cumulative: &mut t.cumulative,
+        tangents: &mut t.tangents,
+    }
 }
 
-fn told(n: Nearest) -> Answer {
-    Answer { number: n.number, ..nearest(n.lane, n.projection) }
+/// A public call, for every file, query, tables and lists.
+pub fn call(file: &[u8], query: &Query, t: &mut Tables, lists: &mut Lists) -> Answer {
+    let t = lend(t);
+    match *query {
+        Query::Pose { lane, s } => posed(lent::pose(file, LaneId(lane), s, t)),
+        Query::Nearest { point: p } => nearest(lent::nearest_lane(file, point(p), t)),
+        Query::Route { from, to } => {
+            routed(lent::route(file, point(from), point(to), t, &mut lists.chain, &mut lists.points))
+        }
+        Query::Advance { lane, s, offset, distance } => {
+            let from = LanePosition { lane: LaneId(lane), s, offset };
+            advanced(lent::advance(file, from, distance, t, &mut lists.rows, &mut lists.metres))
+        }
+        Query::Beside { lane, s, side } => beside(lent::beside(file, LaneId(lane), s, side.into(), t)),
+    }
 }
 
 // Below, each pointer handed over is that of a slice that lives through the call, with its own length.
-
-/// The public calls, for every file, query, tables and lists.
-mod public {
-    use super::*;
-
-    extern "C" {
-        fn kartsodi_pose(
-            file: *const u8, file_len: usize, lane: usize, s: f32,
-            lanes: *mut usize, lanes_len: usize,
-            points: *mut f32, points_len: usize,
-            ends: *mut f32, ends_len: usize,
-            fans: *mut usize, fans_len: usize,
-            links: *mut usize, links_len: usize,
-            sections: *mut usize, sections_len: usize,
-            bounds: *mut f64, bounds_len: usize,
-            stations: *mut f64, stations_len: usize,
-            places: *mut usize, places_len: usize,
-            cumulative: *mut f32, cumulative_len: usize,
-            tangents: *mut f32, tangents_len: usize,
-        ) -> Posed;
-        fn kartsodi_nearest_lane(
-            file: *const u8, file_len: usize, x: f32, y: f32, z: f32,
-            lanes: *mut usize, lanes_len: usize,
-            points: *mut f32, points_len: usize,
-            ends: *mut f32, ends_len: usize,
-            fans: *mut usize, fans_len: usize,
-            links: *mut usize, links_len: usize,
-            sections: *mut usize, sections_len: usize,
-            bounds: *mut f64, bounds_len: usize,
-            stations: *mut f64, stations_len: usize,
-            places: *mut usize, places_len: usize,
-            cumulative: *mut f32, cumulative_len: usize,
-            tangents: *mut f32, tangents_len: usize,
-        ) -> Nearest;
-        fn kartsodi_route(
-            file: *const u8, file_len: usize, x: f32, y: f32, z: f32, to_x: f32, to_y: f32, to_z: f32,
-            lanes: *mut usize, lanes_len: usize,
-            points: *mut f32, points_len: usize,
-            ends: *mut f32, ends_len: usize,
-            fans: *mut usize, fans_len: usize,
-            links: *mut usize, links_len: usize,
-            sections: *mut usize, sections_len: usize,
-            bounds: *mut f64, bounds_len: usize,
-            stations: *mut f64, stations_len: usize,
-            places: *mut usize, places_len: usize,
-            cumulative: *mut f32, cumulative_len: usize,
-            tangents: *mut f32, tangents_len: usize,
-            chain: *mut usize, chain_len: usize,
-            route: *mut f32, route_len: usize,
-        ) -> Routed;
-        fn kartsodi_advance(
-            file: *const u8, file_len: usize, lane: usize, s: f64, offset: f64, distance: f64,
-            lanes: *mut usize, lanes_len: usize,
-            points: *mut f32, points_len: usize,
-            ends: *mut f32, ends_len: usize,
-            fans: *mut usize, fans_len: usize,
-            links: *mut usize, links_len: usize,
-            sections: *mut usize, sections_len: usize,
-            bounds: *mut f64, bounds_len: usize,
-            stations: *mut f64, stations_len: usize,
-            places: *mut usize, places_len: usize,
-            cumulative: *mut f32, cumulative_len: usize,
-            tangents: *mut f32, tangents_len: usize,
-            rows: *mut usize, rows_len: usize,
-            metres: *mut f64, metres_len: usize,
-        ) -> Advanced;
-        fn kartsodi_beside(
-            file: *const u8, file_len: usize, lane: usize, s: f64, side: usize,
-            lanes: *mut usize, lanes_len: usize,
-            points: *mut f32, points_len: usize,
-            ends: *mut f32, ends_len: usize,
-            fans: *mut usize, fans_len: usize,
-            links: *mut usize, links_len: usize,
-            sections: *mut usize, sections_len: usize,
-            bounds: *mut f64, bounds_len: usize,
-            stations: *mut f64, stations_len: usize,
-            places: *mut usize, places_len: usize,
-            cumulative: *mut f32, cumulative_len: usize,
-            tangents: *mut f32, tangents_len: usize,
-        ) -> Beside;
-    }
-
-    pub fn call(file: &[u8], query: &Query, t: &mut Tables, lists: &mut Lists) -> Answer {
-        match *query {
-            Query::Pose { lane, s } => posed(unsafe {
-                kartsodi_pose(
-                    file.as_ptr(), file.len(), lane, s,
-                    t.lanes.as_mut_ptr(), t.lanes.len(),
-                    t.points.as_mut_ptr(), t.points.len(),
-                    t.ends.as_mut_ptr(), t.ends.len(),
-                    t.fans.as_mut_ptr(), t.fans.len(),
-                    t.links.as_mut_ptr(), t.links.len(),
-                    t.sections.as_mut_ptr(), t.sections.len(),
-                    t.bounds.as_mut_ptr(), t.bounds.len(),
-                    t.stations.as_mut_ptr(), t.stations.len(),
-                    t.places.as_mut_ptr(), t.places.len(),
-                    t.cumulative.as_mut_ptr(), t.cumulative.len(),
-                    t.tangents.as_mut_ptr(), t.tangents.len(),
-                )
-            }),
-            Query::Nearest { point: [x, y, z] } => told(unsafe {
-                kartsodi_nearest_lane(
-                    file.as_ptr(), file.len(), x, y, z,
-                    t.lanes.as_mut_ptr(), t.lanes.len(),
-                    t.points.as_mut_ptr(), t.points.len(),
-                    t.ends.as_mut_ptr(), t.ends.len(),
-                    t.fans.as_mut_ptr(), t.fans.len(),
-                    t.links.as_mut_ptr(), t.links.len(),
-                    t.sections.as_mut_ptr(), t.sections.len(),
-                    t.bounds.as_mut_ptr(), t.bounds.len(),
-                    t.stations.as_mut_ptr(), t.stations.len(),
-                    t.places.as_mut_ptr(), t.places.len(),
-                    t.cumulative.as_mut_ptr(), t.cumulative.len(),
-                    t.tangents.as_mut_ptr(), t.tangents.len(),
-                )
-            }),
-            Query::Route { from: [x, y, z], to: [a, b, c] } => routed(unsafe {
-                kartsodi_route(
-                    file.as_ptr(), file.len(), x, y, z, a, b, c,
-                    t.lanes.as_mut_ptr(), t.lanes.len(),
-                    t.points.as_mut_ptr(), t.points.len(),
-                    t.ends.as_mut_ptr(), t.ends.len(),
-                    t.fans.as_mut_ptr(), t.fans.len(),
-                    t.links.as_mut_ptr(), t.links.len(),
-                    t.sections.as_mut_ptr(), t.sections.len(),
-                    t.bounds.as_mut_ptr(), t.bounds.len(),
-                    t.stations.as_mut_ptr(), t.stations.len(),
-                    t.places.as_mut_ptr(), t.places.len(),
-                    t.cumulative.as_mut_ptr(), t.cumulative.len(),
-                    t.tangents.as_mut_ptr(), t.tangents.len(),
-                    lists.chain.as_mut_ptr(), lists.chain.len(),
-                    lists.points.as_mut_ptr(), lists.points.len(),
-                )
-            }),
-            Query::Advance { lane, s, offset, distance } => advanced(unsafe {
-                kartsodi_advance(
-                    file.as_ptr(), file.len(), lane, s, offset, distance,
-                    t.lanes.as_mut_ptr(), t.lanes.len(),
-                    t.points.as_mut_ptr(), t.points.len(),
-                    t.ends.as_mut_ptr(), t.ends.len(),
-                    t.fans.as_mut_ptr(), t.fans.len(),
-                    t.links.as_mut_ptr(), t.links.len(),
-                    t.sections.as_mut_ptr(), t.sections.len(),
-                    t.bounds.as_mut_ptr(), t.bounds.len(),
-                    t.stations.as_mut_ptr(), t.stations.len(),
-                    t.places.as_mut_ptr(), t.places.len(),
-                    t.cumulative.as_mut_ptr(), t.cumulative.len(),
-                    t.tangents.as_mut_ptr(), t.tangents.len(),
-                    lists.rows.as_mut_ptr(), lists.rows.len(),
-                    lists.metres.as_mut_ptr(), lists.metres.len(),
-                )
-            }),
-            Query::Beside { lane, s, side } => beside(unsafe {
-                kartsodi_beside(
-                    file.as_ptr(), file.len(), lane, s, side.into(),
-                    t.lanes.as_mut_ptr(), t.lanes.len(),
-                    t.points.as_mut_ptr(), t.points.len(),
-                    t.ends.as_mut_ptr(), t.ends.len(),
-                    t.fans.as_mut_ptr(), t.fans.len(),
-                    t.links.as_mut_ptr(), t.links.len(),
-                    t.sections.as_mut_ptr(), t.sections.len(),
-                    t.bounds.as_mut_ptr(), t.bounds.len(),
-                    t.stations.as_mut_ptr(), t.stations.len(),
-                    t.places.as_mut_ptr(), t.places.len(),
-                    t.cumulative.as_mut_ptr(), t.cumulative.len(),
-                    t.tangents.as_mut_ptr(), t.tangents.len(),
-                )
-            }),
-        }
-    }
-}
-
-pub use public::call;
 
 /// A plan loaded once, with the index of its driving lanes. A query is handed the plan's rows of each table and no more.
 pub struct Rows {
@@ -454,7 +254,8 @@ impl Rows {
             )
         };
         if hit.found {
-            return nearest(t.lanes[6 * hit.row], hit.projection);
+            let lane = LaneId(t.lanes[6 * hit.row]);
+            return nearest(NearestAnswer { number: 0, lane, projection: hit.projection });
         }
         Answer::refused(10)
     }
@@ -473,7 +274,7 @@ impl Rows {
                     t.bounds.as_ptr(), 2 * c.sections,
                     t.stations.as_ptr(), c.stations,
                     t.places.as_ptr(), 3 * c.places, c.places,
-                    Position { lane, s, offset }, distance,
+                    LanePosition { lane: LaneId(lane), s, offset }, distance,
                     lists.rows.as_mut_ptr(), lists.rows.len(),
                     lists.metres.as_mut_ptr(), lists.metres.len(),
                 )
@@ -484,7 +285,7 @@ impl Rows {
                     t.fans.as_ptr(), 5 * c.lanes,
                     t.places.as_ptr(), 3 * c.places, c.places,
                     t.bounds.as_ptr(), 2 * c.sections,
-                    Position { lane, s, offset: 0.0 }, side.into(),
+                    LanePosition { lane: LaneId(lane), s, offset: 0.0 }, side.into(),
                 )
             }),
             Query::Nearest { point } => self.nearest(point),

@@ -1,5 +1,7 @@
-//! Runs two programs over the same plans and reports the first difference, on the smallest plan that shows it.
+//! Runs two programs over the same plans and reports the first difference, on the smallest plan that shows it; where
+//! there is none, how often each number was given.
 
+use std::collections::BTreeMap;
 use std::io::{Read, Write};
 use std::process::{Command, ExitCode, Stdio};
 use std::sync::mpsc;
@@ -50,6 +52,7 @@ fn run() -> Result<bool, String> {
         return Err(USAGE.to_string());
     };
     let mut agreed = 0;
+    let mut seen = BTreeMap::new();
     for case in cases(&options)? {
         let (left, right) = (output(a, &case.file)?, output(b, &case.file)?);
         if left != right {
@@ -58,9 +61,27 @@ fn run() -> Result<bool, String> {
             return Ok(false);
         }
         agreed += 1;
+        count(&left, &mut seen);
+    }
+    for (word, numbers) in seen {
+        let each: Vec<String> = numbers.iter().map(|(number, times)| format!("{times} with {number}")).collect();
+        println!("{word}: {}", each.join(", "));
     }
     println!("{agreed} passed, 0 failed");
     Ok(true)
+}
+
+/// How often each number was printed, by the line's word.
+type Seen = BTreeMap<String, BTreeMap<usize, usize>>;
+
+fn count(text: &[u8], seen: &mut Seen) {
+    for line in String::from_utf8_lossy(text).lines() {
+        let mut words = line.split(' ');
+        if let Some(word @ ("plan" | "route" | "advance" | "beside")) = words.next() {
+            let number = words.next().and_then(|number| number.parse().ok());
+            *seen.entry(word.to_string()).or_default().entry(number.unwrap_or_default()).or_default() += 1;
+        }
+    }
 }
 
 fn parse() -> Result<Options, String> {

@@ -438,6 +438,7 @@ fn sizes(cases: &mut Vec<Case>) {
     add(cases, "size-65536-unknown".to_string(), [&record(99, &[0; 26])[..], &full[32..]].concat());
     add(cases, "size-1".to_string(), vec![0]);
     add(cases, "size-131072".to_string(), full.repeat(2));
+    add(cases, "size-1000000".to_string(), vec![0; 1_000_000]);
 }
 
 /// The first failing record decides, and within it 3 before 4 before 5 before 6.

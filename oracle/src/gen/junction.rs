@@ -46,6 +46,10 @@ pub fn cases() -> Vec<Case> {
         case("far-points", far_points()),
         case("nothing-advanced", nothing_advanced()),
         case("all-types", all_types()),
+        case("nothing-drives", nothing_drives()),
+        case("refused-queries", refused_queries()),
+        case("empty-queries", Plan { queries: refused_queries().queries, ..Plan::default() }),
+        case("longest-answer", longest_answer()),
     ];
     cases.push(queries_first());
     for metres in [0.0, 6.0, 6.5, 20.0, -2.0, -3.0] {
@@ -316,5 +320,52 @@ fn all_types() -> Plan {
         plan.lanes.push(LaneRecord { kind, ..line });
         plan.queries.push(route([1.0, y, 0.0], [2.0, y, 0.0]));
     }
+    plan
+}
+
+/// Number 10 where there are lanes, and 9 before it; a lane that does not drive has its positions all the same.
+fn nothing_drives() -> Plan {
+    let mut plan = Plan { lanes: vec![LaneRecord { kind: 0, ..usual(1) }], ..Plan::default() };
+    place_alone(&mut plan, 1, 0, &[0.0, 8.0]);
+    plan.queries = vec![route(at(2.0), at(6.0)), route(at(2.0), at(f32::NAN)), advance(1, 2.0, 0.0, 3.0)];
+    plan
+}
+
+/// Each way in which a query is refused, between two that are answered: no field of an answer stays in the next.
+fn refused_queries() -> Plan {
+    let mut plan = advances();
+    plan.lanes.push(lane(3, &[[0.0, 50.0, 0.0], [8.0, 50.0, 0.0]]));
+    let answered = [route(at(2.0), at(12.0)), advance(1, 2.0, -1.5, 20.0)];
+    plan.queries = answered.to_vec();
+    let odd = [f32::NAN, f32::INFINITY, f32::NEG_INFINITY];
+    for (k, odd) in odd.into_iter().chain(odd).enumerate() {
+        let mut ends = [at(2.0), at(12.0)];
+        ends[k / 3][k % 3] = odd;
+        plan.queries.push(route(ends[0], ends[1]));
+    }
+    plan.queries.push(route(at(12.0), at(2.0)));
+    // Lane 9 is not in the plan, lane 3 has no place; lane 1 goes from 0 to 8.
+    let beyond = 8f64.next_up();
+    for (lane, s) in [(9, 2.0), (3, 2.0), (1, -1e-300), (1, beyond), (1, f64::NAN), (2, 7.0)] {
+        plan.queries.extend([advance(lane, s, 0.0, 3.0), advance(lane, s, 0.0, f64::NAN), beside(lane, s, 0)]);
+    }
+    plan.queries.extend([f64::NAN, f64::INFINITY, f64::NEG_INFINITY].map(|metres| advance(1, 2.0, -1.5, metres)));
+    plan.queries.extend([beside(1, 2.0, 0), beside(1, 2.0, 1)]);
+    plan.queries.extend(answered);
+    plan
+}
+
+/// The most lanes and points that an answer has, lane numbers of five digits; then one point more. The ring goes out and
+/// comes back 3 m beside.
+fn longest_answer() -> Plan {
+    let mut plan = Plan::default();
+    let number = |i: u16| u16::MAX - i % 256;
+    let spot = |k: u16, y: f32| [32.0 * f32::from(k) - 2048.0, y, 0.0];
+    for i in 0..256 {
+        let ends = if i < 128 { [spot(i, 0.0), spot(i + 1, 0.0)] } else { [spot(256 - i, 3.0), spot(255 - i, 3.0)] };
+        plan.lanes.push(lane(number(i), &ends));
+        plan.links.push(link(number(i), SUCCESSOR, number(i + 1)));
+    }
+    plan.queries = vec![route(at(18.0), at(12.0)), route(at(17.5), at(12.0))];
     plan
 }

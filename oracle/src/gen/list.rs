@@ -17,8 +17,13 @@ const THINNED: &[(&str, usize)] = &[
 ];
 
 /// Large files that show no more than others that are kept.
-const LEFT_OUT: &[&str] =
-    &["bounds-size-131072", "bounds-size-65537-bad-first", "bounds-size-65536-unknown", "bounds-size-65535"];
+const LEFT_OUT: &[&str] = &[
+    "bounds-size-131072",
+    "bounds-size-1000000",
+    "bounds-size-65537-bad-first",
+    "bounds-size-65536-unknown",
+    "bounds-size-65535",
+];
 const LEFT_OUT_KINDS: &[&str] = &["bounds-points-twice-", "bounds-points-one-lane-", "bounds-stations-one-"];
 
 /// How many plans of each family, and how many damaged ones.

@@ -1,7 +1,7 @@
 //! Compares the public calls with the oracle, query by query: number, counts, floats by their bits, lists and tables entry by entry,
 //! those past the counts and those of a refused call too.
 //!
-//! `compare-lanes [rows] pose|nearest|route|advance|beside [COUNT [SEED]]`, after `rt staticlib lanes_c` and `rt staticlib queries_c`.
+//! `compare-lanes [rows] pose|nearest|route|advance|beside [COUNT [SEED]]`, built by `compare/build lanes`.
 //! With `rows` the plan is loaded once, and the query asked of its rows.
 
 
