@@ -24,7 +24,7 @@ use Rattle.grid.specs.Grid.{boxAt, grown, padded, outside, dist2}
 use Rattle.network.specs.Lanes.{around}
 use Rattle.accuracy.proofs.Vectors.{from, beyond, far}
 use Rattle.accuracy.proofs.Coordinates.{Coord, Coords, diff, zero-ok, zero-val, zero-coord}
-use Rattle.accuracy.proofs.Distance.{square-of, Dist, pair-err}
+use Rattle.accuracy.proofs.Distance.{Dist, add-nonneg, pair-err, square-of}
 use Rattle.accuracy.proofs.Span.{AllCoords}
 use Rattle.accuracy.proofs.MinMax.{min-by, max-by, max-cases, min-first, min-second, max-first, max-second, max-ok}
 
@@ -290,7 +290,7 @@ box-dist b p lx hx ly hy P =
       exact = sq (gx .e) ⊞ sq (gy .e);
       dist = pair-err (mul binary32 dx dx) (mul binary32 dy dy) (gx .e) (gy .e) (square-of dx (gx .e) (gx .good) (gx .size) (gx .near))
           (square-of dy (gy .e) (gy .good) (gy .size) (gy .near));
-      pos = nonneg (sq (gx .e)) (sq (gy .e)) (sq-nonneg (gx .e)) (sq-nonneg (gy .e));
+      pos = add-nonneg (sq (gx .e)) (sq (gy .e)) (sq-nonneg (gx .e)) (sq-nonneg (gy .e));
       near = λ a c A C K S R k₁ s₀ s₁ h.
           let v = beyond K S (from a p) (from a c) in
           let X = axis dx (b .«min_x») (b .«max_x») (p .x) (a .x) (c .x) K S gx k₁ s₀ s₁ (A .x) (C .x) in
@@ -302,8 +302,5 @@ box-dist b p lx hx ly hy P =
           (ring 2 (λ k r. (k :* r) :* (k :* r) := (k :* k) :* (r :* r)) tt K R));
     }
   where
-    nonneg : (a b : Z) → ι 0 ⊑ a → ι 0 ⊑ b → ι 0 ⊑ a ⊞ b
-    nonneg a b h k = unfold ι _⊞_ in omega arith
-
     sum : (l x y X Y W r kr : Z) → x ⊑ X → y ⊑ Y → ι 0 ⊑ W → 1000000 · (X ⊞ Y ⊞ W) ⊑ r → l ≈ 1000000 · (x ⊞ y) → r ≈ kr → l ⊑ kr
     sum l x y X Y W r kr h i j k e f = unfold ι _⊞_ _·_ in omega arith

@@ -64,7 +64,7 @@ pub record Dist (d : Float) (E : Z) : Type 0 where
   pub pos : ι 0 ⊑ val d
   pub near : Within (1048576 · (ι U ⊠ val d ⊟ E)) (E ⊞ ι (2097152 * U))
 
-add-nonneg : (a b : Z) → ι 0 ⊑ a → ι 0 ⊑ b → ι 0 ⊑ a ⊞ b
+pub add-nonneg : (a b : Z) → ι 0 ⊑ a → ι 0 ⊑ b → ι 0 ⊑ a ⊞ b
 unfolding ι _⊞_
 add-nonneg a b h k = omega arith
 

@@ -41,6 +41,9 @@ module _ {A : Type 0} where
   in-either x (a ∷ xs) ys (inr h) = elim (in-either x xs ys h) [ inl k ↦ inl (inr k) | inr k ↦ inr k ]
 
 -- ---- the spans of a lane
+shift : (j d : ℕ) → suc j + d ≡ j + suc d
+shift j d = omega arith
+
 cut-has : (l : Lane) (k j d : ℕ) → d < k → In (spanAt l (j + d)) (cutFrom l k j)
 unfolding cutFrom
 cut-has l zero j d h = absurd (none d h)
@@ -53,9 +56,6 @@ cut-has l (suc k) j zero h = inl (ap (spanAt l) (plain j))
     plain j = omega arith
 cut-has l (suc k) j (suc d) h =
     inr (subst (λ (n : ℕ). In (spanAt l n) (cutFrom l k (suc j))) (shift j d) (cut-has l k (suc j) d (omega arith)))
-  where
-    shift : (j d : ℕ) → suc j + d ≡ j + suc d
-    shift j d = omega arith
 
 cut-only : (l : Lane) (k j : ℕ) (s : Span) → In s (cutFrom l k j) → (d : ℕ) × (d < k) × (s ≡ spanAt l (j + d))
 unfolding cutFrom
@@ -68,9 +68,6 @@ cut-only l (suc k) j s (inr h) = more (cut-only l k (suc j) s h)
   where
     more : (d : ℕ) × (d < k) × (s ≡ spanAt l (suc j + d)) → (d : ℕ) × (d < suc k) × (s ≡ spanAt l (j + d))
     more (d, g, e) = (suc d, omega arith, e ∙ ap (spanAt l) (shift j d))
-      where
-        shift : (j d : ℕ) → suc j + d ≡ j + suc d
-        shift j d = omega arith
 
 -- ---- each piece is in a span
 pub record SpanOf (table : List Bool) (ls : List Lane) (l : Lane) (i : ℕ) : Type 0 where

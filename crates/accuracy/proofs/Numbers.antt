@@ -11,6 +11,7 @@ use lib.Ieee.Scale.{finite}
 use Rattle.coords.specs.declared.Point.{Point}
 use Rattle.coords.specs.declared.Vector.{Vector}
 use Rattle.coords.specs.Coords.{finitePoint, subOf, lengthSquared}
+use Rattle.exact.specs.Ring.{and-l, and-r}
 use Rattle.float.specs.Sign.{isNegative}
 use Rattle.float_laws.proofs.Narrow.{round-sign}
 use Rattle.geometry.specs.declared.Nearer.{Nearer}
@@ -78,23 +79,15 @@ length-number v x y z =
     (square-plus (v .z) z) .number
 
 -- ---- the squared distance of two finite points
-first : (a b : Bool) → T (a && b) → T a
-first true b t = tt
-first false b t = t
-
-second : (a b : Bool) → T (a && b) → T b
-second true b t = t
-second false b t = absurd t
-
 far-number : (p a : Point) → T (finitePoint p) → T (finitePoint a) → Number (lengthSquared (subOf p a))
 far-number p a P A =
-    let Q = first (finite (p .x) && finite (p .y)) (finite (p .z)) P in
-    let B = first (finite (a .x) && finite (a .y)) (finite (a .z)) A in
+    let Q = and-l (finite (p .x) && finite (p .y)) (finite (p .z)) P in
+    let B = and-l (finite (a .x) && finite (a .y)) (finite (a .z)) A in
     length-number (subOf p a)
-    (sub-number (p .x) (a .x) (first (finite (p .x)) (finite (p .y)) Q) (first (finite (a .x)) (finite (a .y)) B))
-    (sub-number (p .y) (a .y) (second (finite (p .x)) (finite (p .y)) Q) (second (finite (a .x)) (finite (a .y)) B))
-    (sub-number (p .z) (a .z) (second (finite (p .x) && finite (p .y)) (finite (p .z)) P)
-    (second (finite (a .x) && finite (a .y)) (finite (a .z)) A))
+    (sub-number (p .x) (a .x) (and-l (finite (p .x)) (finite (p .y)) Q) (and-l (finite (a .x)) (finite (a .y)) B))
+    (sub-number (p .y) (a .y) (and-r (finite (p .x)) (finite (p .y)) Q) (and-r (finite (a .x)) (finite (a .y)) B))
+    (sub-number (p .z) (a .z) (and-r (finite (p .x) && finite (p .y)) (finite (p .z)) P)
+    (and-r (finite (a .x) && finite (a .y)) (finite (a .z)) A))
 
 -- ---- the place that a point is projected to: the first point, or one that was nearer than another
 less-number : (x y : Float) → lt x y ≡ true → Number x

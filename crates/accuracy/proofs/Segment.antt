@@ -11,7 +11,7 @@ use Rattle.exact.specs.Integers.{Z, _≈_, _⊑_, _⊞_, _⊠_, _·_, ⊖, ι, 
 use Rattle.exact.specs.Ring.{_:*_, _:=_, ring}
 use Rattle.exact.specs.Inequalities.{Within, ⊑-or-lt, ≈-⊑, ⊑-≈, lt→⊑, within-scale, within-of-nonneg, scale-mono, sq}
 use Rattle.exact.specs.Values.{U, mag, val, F32, size-of}
-use Rattle.exact.specs.Order.{lt-yes, lt-no}
+use Rattle.exact.specs.Order.{antisym, lt-no, lt-yes}
 use Rattle.exact.specs.Arithmetic.{size-is, div-hi, div-lo}
 use Rattle.exact.specs.Steps.{Step, div-step}
 use Rattle.float.specs.Choose.{clampOf}
@@ -104,9 +104,6 @@ module _ (num len : Float) (w d : Vec) (q : Quotient num len w d) (g : ι U ⊑ 
       up : (v : Z) → ι 0 ⊞ ι 1 ⊑ v → ι 0 ⊑ v
       up v h = unfold ι _⊞_ in omega arith
 
-      anti : (v u : Z) → v ⊑ u → u ⊑ v → v ≈ u
-      anti v u h i = omega arith
-
       below : val num ⊑ ι 0 → Close (clampOf t zero⁺ one⁺) w d
       below h =
           let s : Z = ι (size-of len) in
@@ -118,7 +115,7 @@ module _ (num len : Float) (w d : Vec) (q : Quotient num len w d) (g : ι U ⊑ 
           clamp-cases (λ (t : Float). Close t w d) t (quot .good)
           (λ i. nearly-best-close zero⁺ w d (at-start num len w d q g zero⁺ zero-ok zero-val h))
           (λ i. absurd (impossible (val t) v₀ i))
-          (λ i j. nearly-best-close t w d (at-start num len w d q g t (quot .good) (anti (val t) (ι 0) v₀ i) h))
+          (λ i j. nearly-best-close t w d (at-start num len w d q g t (quot .good) (antisym (val t) (ι 0) v₀ i) h))
         where
           impossible : (v : Z) → v ⊑ ι 0 → ι U ⊞ ι 1 ⊑ v → ⊥
           impossible v a b = unfold ι _⊞_ in omega arith
@@ -134,7 +131,7 @@ module _ (num len : Float) (w d : Vec) (q : Quotient num len w d) (g : ι U ⊑ 
           clamp-cases (λ (t : Float). Close t w d) t (quot .good)
           (λ i. absurd (impossible (val t) i v₁))
           (λ i. nearly-best-close one⁺ w d (at-end num len w d q g one⁺ one-ok one-val h))
-          (λ i j. nearly-best-close t w d (at-end num len w d q g t (quot .good) (anti (val t) (ι U) j v₁) h))
+          (λ i j. nearly-best-close t w d (at-end num len w d q g t (quot .good) (antisym (val t) (ι U) j v₁) h))
         where
           impossible : (v : Z) → v ⊞ ι 1 ⊑ ι 0 → ι U ⊑ v → ⊥
           impossible v a b = unfold ι _⊞_ in omega arith

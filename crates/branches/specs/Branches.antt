@@ -1,10 +1,10 @@
 -- advance.rs: a branch in flight, the keys by which branches are told apart, and where a branch goes on. Definitions only.
-use mathlib.Core.Bool.{Bool, true, false, cond, not, _&&_, _||_}
+use mathlib.Core.Bool.{Bool, false, cond, not, _&&_, _||_}
 use mathlib.Core.List.{List, [], _∷_}
-use Prim.Native.Nat.{ℕ, zero, suc, _+_, _-_}
+use Prim.Native.Nat.{ℕ, _+_, _-_}
 use lib.Dec.{eqb, ltb}
-use lib.ListN.{length, getD}
-use lib.Ieee.{Float, binary32, binary64, add, sub, mul, le, lt, ofBits, toBits, toSigned}
+use lib.ListN.{length}
+use lib.Ieee.{Float, binary32, binary64, sub, mul, le, ofBits, toBits, toSigned}
 use mir.Syntax.{w64}
 use mir.Val.{ofZ}
 use Rattle.float.specs.Whole.{roundOf}
@@ -13,6 +13,7 @@ use Rattle.coords.specs.Coords.{zero⁺, subOf, lengthSquared, distanceTo}
 use Rattle.geometry.specs.Polyline.{pointAt}
 use Rattle.geometry.specs.Locate.{pointAlong}
 use Rattle.geometry.specs.Project.{projectOf}
+use Rattle.road.specs.Along.{one64}
 use Rattle.rows.specs.Rows.{laneNumber, directionOf, pointsOf, arcsOf, lengthOf, firstLink, successors, predecessors}
 use Rattle.branches.specs.declared.Branch.{Branch}
 use Rattle.branches.specs.declared.Key.{Key}
@@ -21,10 +22,7 @@ use Rattle.branches.specs.Tables.{Tables, ledTo}
 
 -- ---- numbers
 
--- 1, -1 and 1000 as f64
-abbrev pub one64 : Float
-one64 = ofBits binary64 0x3ff0000000000000
-
+-- -1 and 1000 as f64
 abbrev pub minusOne64 : Float
 minusOne64 = ofBits binary64 0xbff0000000000000
 

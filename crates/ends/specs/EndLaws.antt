@@ -1,12 +1,12 @@
 -- The ends of branches: what the code's steps make of them, and how the rows hold them.
-use mathlib.Core.Path.{_≡_, refl, sym, ap, _∙_}
+use mathlib.Core.Path.{_≡_, refl, sym}
 use mathlib.Core.Bool.{Bool, true, false}
 use mathlib.Core.List.{List, [], _∷_}
 use Prim.Native.Nat.{ℕ, _+_, _*_, _<_, _≤_}
 use native.Mathlib.Omega.{arith}
 use lib.Dec.{eqb}
-use lib.ListN.{length, getD}
-use lib.Ieee.{Float, nan, binary32, binary64, add, sub, mul, lt}
+use lib.ListN.{length}
+use lib.Ieee.{Float, nan, binary32, binary64, add, sub, lt}
 use borrow.Author.Tests.{eq-eqb, ne-eqb, lt-ltb, le-ltb}
 use Rattle.float.specs.Choose.{minOf}
 use Rattle.float.specs.Narrow.{narrowOf}

@@ -41,7 +41,7 @@ level-of true a true b h = and-i (eqb a b) true (eq→eqb {a = a} {b = b} (omega
 level-of false a true b h = and-i (eqb a b) (eqb a 0) (eq→eqb {a = a} {b = b} (omega arith)) (eq→eqb {a = a} {b = 0} (omega arith))
 level-of true a false b h = and-i (eqb a b) (eqb a 0) (eq→eqb {a = a} {b = b} (omega arith)) (eq→eqb {a = a} {b = 0} (omega arith))
 
-antisym : (a b : Z) → a ⊑ b → b ⊑ a → a ≈ b
+pub antisym : (a b : Z) → a ⊑ b → b ⊑ a → a ≈ b
 antisym a b h k = omega arith
 
 or-cases : (a b : Bool) → T (a || b) → T a ⊎ T b

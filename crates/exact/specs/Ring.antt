@@ -300,11 +300,11 @@ norm-ok (a :* b) ρ = ≈-trans (pmul-ok (norm a) (norm b) ρ) (⊠-cong (norm-o
 norm-ok (neg a) ρ = ≈-trans (pneg-ok (norm a) ρ) (⊖-cong (norm-ok a ρ))
 norm-ok (k :· a) ρ = ≈-trans (pscale-ok k (norm a) ρ) (·-cong k (norm-ok a ρ))
 
-and-l : (a b : Bool) → T (a && b) → T a
+pub and-l : (a b : Bool) → T (a && b) → T a
 and-l true b t = tt
 and-l false b t = t
 
-and-r : (a b : Bool) → T (a && b) → T b
+pub and-r : (a b : Bool) → T (a && b) → T b
 and-r true b t = t
 and-r false b t = absurd t
 

@@ -54,7 +54,7 @@ unfolding ι _⊠_
 unfolding ι _⊠_ ⊖
 ι-times-minus k n = omega arith
 
-within-both : (a b c : Z) (n : ℕ) → a ⊑ b → c ⊑ a → b ≈ ι n → c ≈ ⊖ (ι n) → Within a (ι n)
+pub within-both : (a b c : Z) (n : ℕ) → a ⊑ b → c ⊑ a → b ≈ ι n → c ≈ ⊖ (ι n) → Within a (ι n)
 unfolding ι ⊖
 within-both a b c n h k e f = omega arith
 

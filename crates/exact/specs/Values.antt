@@ -1,5 +1,5 @@
 -- The exact value of a finite f32, an integer number of units of 2 ^ -149 (`val`), and that of what `round` makes.
-use mathlib.Core.Path.{_≡_, refl, sym, ap, ap₂, _∙_, subst}
+use mathlib.Core.Path.{_≡_, refl, sym, ap₂, _∙_, subst}
 use Prim.Native.Nat.{ℕ, suc, _+_, _-_, _*_, _^_, _≤_, _<_}
 use native.Mathlib.Nat.{lt-of-lt-of-le, le-of-eq, lt-of-not-le, mul-right-comm, mul-le-mul-right, mul-lt-mul-of-pos-right}
 use native.Mathlib.Nat.{le-of-mul-le-mul-right, eq-of-mul-eq-mul-right}

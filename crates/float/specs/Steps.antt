@@ -1,7 +1,7 @@
 -- What the private steps of the functions say. The public contracts do not use them.
 use mathlib.Core.Path.{_≡_}
 use mathlib.Core.Bool.{false}
-use Prim.Native.Nat.{ℕ, _+_, _-_, _*_, _/_, _^_, _≤_, _<_}
+use Prim.Native.Nat.{ℕ, _+_, _*_, _/_, _^_, _≤_, _<_}
 use lib.Dec.{T}
 use lib.IntN.{pos}
 use lib.Ieee.{Float, fin, binary32, binary64, lt, ofBits}

@@ -1,7 +1,7 @@
 -- The saturating casts are what specs/Casts says, and nothing else is; they keep the order; and the floor of a number that is not negative
 -- casts as the number does.
 use mathlib.Core.Path.{_≡_, refl, sym, ap, _∙_, subst}
-use mathlib.Core.Bool.{Bool, true, false, not, _&&_, _||_, cond, true≢false, false≢true}
+use mathlib.Core.Bool.{Bool, true, false, _&&_, _||_, cond, true≢false, false≢true}
 use Prim.Native.Nat.{ℕ, _+_, _-_, _*_, _/_, _^_, _≤_, _<_, min, zero-le}
 use native.Mathlib.Nat.{le-refl, le-trans, le-of-eq, le-antisymm, lt-of-le-of-lt, lt-of-mul-lt-mul-right, mul-one, mul-le-mul-right}
 use native.Mathlib.Nat.{zero-mul, zero-div, mul-div-cancel, div-mul-le-self, eq-of-mul-eq-mul-right}

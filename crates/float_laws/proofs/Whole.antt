@@ -2,14 +2,14 @@
 -- is, a zero with its sign.
 use mathlib.Core.Path.{_≡_, refl, sym, ap, _∙_, subst}
 use mathlib.Core.Bool.{Bool, true, false, true≢false, false≢true}
-use Prim.Native.Nat.{ℕ, zero, suc, _+_, _-_, _*_, _/_, _^_, _≤_, _<_}
+use Prim.Native.Nat.{ℕ, suc, _+_, _-_, _*_, _/_, _^_, _≤_, _<_}
 use native.Mathlib.Nat.{le-trans, le-of-eq, le-antisymm, lt-of-lt-of-le, lt-of-le-of-lt, mul-one, mul-pos, mul-le-mul-left}
 use native.Mathlib.Nat.{lt-of-mul-lt-mul-right, div-mul-le-self, div-lt-iff-lt-mul, pow-succ'}
 use native.Mathlib.Omega.{arith}
 use lib.IntN.{ℤ, pos, negsuc}
 use lib.Dec.{T, lit<}
 use lib.Pow.{pow-pos}
-use lib.Ieee.{Float, nan, inf, fin, Format, binary32, binary64, prec, hid, up, down, neg, ofInt, fits}
+use lib.Ieee.{Float, nan, inf, fin, Format, binary32, binary64, hid, up, down, neg, ofInt, fits}
 use lib.Ieee.Scale.{finite}
 use lib.Ieee.Fits.{down-pos, round-fits, neg-fits}
 use lib.Ieee.Exact.{HasValue}

@@ -1,6 +1,6 @@
 -- Worked cases: what the definitions answer on small polylines, by computation.
 use mathlib.Core.Path.{_≡_, refl}
-use mathlib.Core.Bool.{true, false}
+use mathlib.Core.Bool.{true}
 use mathlib.Core.List.{List, [], _∷_}
 use Prim.Native.Nat.{ℕ}
 use lib.Ieee.{Float, nan, binary32, add, sub, mul, div, lt, le, ofBits}

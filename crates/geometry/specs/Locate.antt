@@ -1,6 +1,6 @@
 -- geometry.rs, `Polyline::segment` to `Polyline::pose_at`: where an arc length s lies on a polyline of points `ps`, arc lengths
 -- `cs` and tangents `ts`. Any s is accepted, NaN too. Definitions only.
-use mathlib.Core.Bool.{Bool, cond}
+use mathlib.Core.Bool.{cond}
 use mathlib.Core.List.{List}
 use Prim.Native.Nat.{ℕ, _+_, _-_, min}
 use lib.ListN.{length, getD}

@@ -1,7 +1,7 @@
 -- geometry.rs, `Polyline::build`: a lane's polyline over the flat list of its points, as its record in the plan file has them
 -- (x y z of each): the arc length at each point and the tangents. Definitions only.
 use mathlib.Core.Path.{_≡_}
-use mathlib.Core.Bool.{Bool, cond, _&&_}
+use mathlib.Core.Bool.{cond, _&&_}
 use mathlib.Core.List.{List, [], _∷_, _++_}
 use Prim.Native.Nat.{ℕ, zero, suc, _+_, _-_, _*_, _≤_}
 use lib.Dec.{ltb, eqb}

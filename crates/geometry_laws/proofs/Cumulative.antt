@@ -1,14 +1,14 @@
 -- The arc lengths of a lane in range: finite, not negative, never falling; its length is a cost of a link, at most 2 ^ 27.
-use mathlib.Core.Path.{_≡_, refl, sym, ap, _∙_, subst}
-use mathlib.Core.Bool.{Bool, true, false}
+use mathlib.Core.Path.{_≡_, refl, sym, subst}
+use mathlib.Core.Bool.{false}
 use mathlib.Core.List.{List}
-use Prim.Native.Nat.{ℕ, zero, suc, _+_, _-_, _*_, _^_, _≤_, _<_, zero-le}
+use Prim.Native.Nat.{ℕ, zero, suc, _+_, _-_, _*_, _^_, _≤_, _<_}
 use native.Mathlib.Nat.{lt-of-le-of-lt, mul-le-mul-right, mul-lt-mul-of-pos-right}
 use native.Mathlib.Omega.{arith}
 use lib.Dec.{T, lit<}
 use lib.IntN.{pos}
 use lib.ListN.{length, getD}
-use lib.Ieee.{Float, nan, fin, binary32, le, ofBits}
+use lib.Ieee.{Float, nan, fin, le, ofBits}
 use lib.Ieee.Order.{le-of-values}
 use Rattle.exact.specs.Values.{U, U-pos, size-of}
 use Rattle.exact.specs.Sums.{UpTo, zero-up-to, Piece, Long, long-more, long-link, LinkCost, sum-grows}

@@ -7,18 +7,18 @@ use native.Mathlib.Nat.{le-trans, le-of-eq, lt-of-le-of-lt, mul-le-mul, mul-le-m
 use native.Mathlib.Omega.{arith}
 use lib.Dec.{T, lt→ltb, lit<}
 use lib.IntN.{pos}
-use lib.Ieee.{Float, nan, inf, fin, Format, binary32, add, sub, mul, le, fits, round, units, odd, size, unlike}
+use lib.Ieee.{Float, nan, inf, fin, binary32, sub, mul, le, fits, round, units, odd, size, unlike}
 use lib.Ieee.Exact.{HasValue}
 use lib.Ieee.Scale.{finite, grid}
 use lib.Ieee.Positive.{value-pos}
-use lib.Ieee.Fits.{mul-fits, round-fits}
+use lib.Ieee.Fits.{mul-fits}
 use Rattle.exact.specs.Naturals.{lt-or-le}
-use Rattle.exact.specs.Integers.{Z, _≈_, _⊑_, ⊖, ι, _⊞_, _⊟_, _⊠_, sgn}
+use Rattle.exact.specs.Integers.{Z, _≈_, _⊑_, ⊖, ι, _⊟_, _⊠_, sgn}
 use Rattle.exact.specs.Inequalities.{Within, within-mul, within-up}
 use Rattle.exact.specs.Fractions.{mul-values}
 use Rattle.exact.specs.Values.{U, U-pos, mag, val, size-of, F32, units-of, val-of, round-value, round-under}
 use Rattle.exact.specs.Order.{le-yes}
-use Rattle.exact.specs.Steps.{sub-step, mul-step}
+use Rattle.exact.specs.Steps.{mul-step, sub-step, within-both}
 use Rattle.exact.specs.Sums.{UpTo, up-to, sum-bounded, Piece}
 use Rattle.float.specs.Root.{sqrtOf, sqrtIn}
 use Rattle.float_laws.specs.Nearest.{Units}
@@ -55,17 +55,13 @@ between-ends (inf true) h k = k
 between-ends (inf false) h k = h
 between-ends (fin s m e) h k = tt
 
-both : (x a b : Z) (n : ℕ) → x ⊑ a → b ⊑ x → a ≈ ι n → b ≈ ⊖ (ι n) → Within x (ι n)
-unfolding ι ⊖
-both x a b n h k e f = omega arith
-
 pub in-range-ok : (x : Float) → InRange x → F32 x
 in-range-ok x r = record { fit = r .held; real = between-ends x (r .high) (r .low) }
 
 pub in-range-size : (x : Float) → InRange x → Within (val x) (ι (2 ^ 12 * U))
 in-range-size x r =
     let p = in-range-ok x r in
-    both (val x) (val top) (val bottom) (2 ^ 12 * U) (le-yes x top p (end-ok false) (r .high))
+    within-both (val x) (val top) (val bottom) (2 ^ 12 * U) (le-yes x top p (end-ok false) (r .high))
     (le-yes bottom x (end-ok true) p (r .low)) top-value bottom-value
 
 -- ---- the difference of two

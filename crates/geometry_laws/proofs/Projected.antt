@@ -10,9 +10,8 @@ use native.Mathlib.Omega.{arith}
 use lib.Dec.{T, lit<}
 use lib.IntN.{pos}
 use lib.ListN.{length, getD}
-use lib.Ieee.{Float, nan, inf, fin, Format, binary32, add, sub, mul, div, neg, lt, fits, ofBits}
+use lib.Ieee.{Float, nan, inf, fin, binary32, add, sub, mul, div, neg, lt, fits, ofBits}
 use lib.Ieee.Fits.{div-fits}
-use lib.Ieee.Scale.{finite}
 use Rattle.exact.specs.Integers.{Z, _≈_, ≈-sym, _⊑_, ⊖, ι, _⊞_, _⊠_, sgn}
 use Rattle.exact.specs.Inequalities.{Within, ⊑-trans, mul-nonneg, within-mul, within-up, within-of-nonneg, ⊑-≈, ≈-⊑}
 use Rattle.exact.specs.Values.{U, mag, val, size-of, val-of, finite-of-value, F32}
@@ -22,7 +21,7 @@ use Rattle.exact.specs.Steps.{add-step, mul-step}
 use Rattle.float.specs.Choose.{clampOf}
 use Rattle.coords.specs.declared.Point.{Point}
 use Rattle.coords.specs.declared.Vector.{Vector}
-use Rattle.coords.specs.Coords.{zero⁺, one⁺, subOf, addOf, mulOf, dotOf, lengthSquared, lengthOf}
+use Rattle.coords.specs.Coords.{zero⁺, one⁺, subOf, dotOf, lengthSquared, lengthOf}
 use Rattle.geometry.specs.declared.Nearer.{Nearer}
 use Rattle.geometry.specs.declared.Projection.{Projection}
 use Rattle.geometry.specs.Polyline.{pointAt, arcAt, cumulativeOf}

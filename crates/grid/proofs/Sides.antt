@@ -1,5 +1,5 @@
 -- A grid that was built has a cell, and at most MAX_DIM a side; and a cell of it is inside of it.
-use Prim.Native.Nat.{ℕ, _<_, min}
+use Prim.Native.Nat.{ℕ, _<_}
 use native.Mathlib.Omega.{arith}
 use lib.Ieee.{Float}
 use Rattle.grid.specs.declared.Aabb.{Aabb}

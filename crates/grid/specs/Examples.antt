@@ -1,7 +1,7 @@
 -- Worked values of the definitions, by computation. The dimensions are those that grid.rs answers.
 use mathlib.Core.Path.{_≡_, refl}
 use mathlib.Core.Bool.{true, false}
-use mathlib.Core.List.{List, [], _∷_}
+use mathlib.Core.List.{[], _∷_}
 use Prim.Native.Nat.{ℕ}
 use lib.Ieee.{Float, nan, binary32, ofBits, ofInt, add, sub, mul, div, lt, le, eq, isNan, toUnsigned}
 use Rattle.grid.specs.declared.Aabb.{Aabb}

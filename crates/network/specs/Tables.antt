@@ -1,6 +1,6 @@
 -- How lanes, spans and answers stand in the tables that the code reads and writes; crate `rows` says how rows of lanes are read. Definitions only.
 use mathlib.Core.Path.{_≡_}
-use mathlib.Core.Bool.{Bool, false, _&&_}
+use mathlib.Core.Bool.{Bool, _&&_}
 use lib.Dec.{leb}
 use mathlib.Core.List.{List, [], _∷_}
 use Prim.Native.Nat.{ℕ, zero, suc, _+_, _-_, _*_, _<_, _≤_}

@@ -1,7 +1,7 @@
 // The tables that a public call is lent: the plan of a file read into them, with the arc length and the tangent at each of its points.
 ghost use mathlib.Core.Path.{_≡_};
-ghost use Prim.Native.Nat.{_*_, _≤_};
-ghost use lib.ListN.{length, take};
+ghost use Prim.Native.Nat.{_*_};
+ghost use lib.ListN.{take};
 ghost use Rattle.geometry.specs.Over.{over};
 ghost use Rattle.geometry_rows.specs.Rows.{cumulativeRows, tangentRows};
 ghost use Rattle.plan_format.specs.Reading.{opened};

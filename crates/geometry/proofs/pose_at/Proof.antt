@@ -1,5 +1,5 @@
 -- `pose_at` has the place and the heading at what `locate` finds.
-use mathlib.Core.Path.{_∙_, ap}
+use mathlib.Core.Path.{ap}
 use native.Mathlib.Omega.{arith}
 use borrow.Author.Needs.{needs}
 use Rattle.geometry.specs.declared.Located.{Located}

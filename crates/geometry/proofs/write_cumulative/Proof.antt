@@ -1,9 +1,9 @@
 -- `write_cumulative` writes front to back: at each turn the arc lengths up to point i stand there, and `acc` is the one at i.
-use mathlib.Core.Path.{_≡_, refl, sym, ap, ap₂, _∙_}
-use Prim.Native.Nat.{ℕ, _+_, _-_, _<_}
+use mathlib.Core.Path.{_≡_, refl, ap, ap₂, _∙_}
+use Prim.Native.Nat.{_+_, _-_, _<_}
 use native.Mathlib.Omega.{arith}
 use lib.ListN.{length, set, length-set}
-use lib.Ieee.{Float, binary32, add}
+use lib.Ieee.{binary32, add}
 use borrow.Author.Needs.{needs}
 use Rattle.coords.specs.Coords.{zero⁺}
 use Rattle.geometry.specs.Polyline.{arcAt, cumulativeOf}

@@ -5,9 +5,6 @@ use borrow.Author.Needs.{needs}
 use Rattle.geometry_c.specs.Centerline.{asCenterline}
 use Rattle.geometry_c.proofs.kartsodi_centerline_s.Statement.{statement}
 use Rattle.geometry_c.proofs.kartsodi_centerline_s.Tie as tie
-use Rattle.geometry_c.proofs.kartsodi_centerline_s.Reads as reads
-use Rattle.geometry_c.proofs.kartsodi_centerline_s.Lts as lts
-use Rattle.road.proofs.centerline_s.Reads as centerline-s-reads
 
 centerline-s-requires : tie.Need-centerline-s-requires
 centerline-s-requires c κs = search needs

@@ -1,5 +1,5 @@
 -- `near` starts at c - r, or at 0 where that is below.
-use Prim.Native.Nat.{ℕ, _+_, _-_, _<_, _≤_, min}
+use Prim.Native.Nat.{ℕ, _+_, _-_, min}
 use mathlib.Core.Path.{_≡_}
 use native.Mathlib.Omega.{arith}
 use Rattle.grid.specs.declared.Run.{Run}

@@ -1,6 +1,6 @@
 -- `side` clamps the whole number from below, then from above.
-use Prim.Native.Nat.{ℕ, _<_, _≤_, min, max}
-use mathlib.Core.Path.{_≡_, _∙_, ap}
+use Prim.Native.Nat.{ℕ, min, max}
+use mathlib.Core.Path.{_≡_}
 use native.Mathlib.Omega.{arith}
 use lib.Ieee.{Float, toUnsigned}
 use Rattle.float.specs.Whole.{ceilOf}

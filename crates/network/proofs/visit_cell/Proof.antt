@@ -1,6 +1,6 @@
 -- `visit_cell` offers one span a turn.
 use mathlib.Core.Path.{_≡_, refl}
-use Prim.Native.Nat.{_+_, _-_, _<_, _≤_}
+use Prim.Native.Nat.{_+_, _-_, _≤_}
 use native.Mathlib.Omega.{arith}
 use Rattle.network.specs.Nearest.{visitCell}
 use Rattle.network.specs.Tables.{bestOf, itemList}

@@ -1,9 +1,9 @@
 -- `visit_ring` visits one row a turn.
-use mathlib.Core.Path.{_≡_, refl, sym, ap, subst, _∙_}
-use Prim.Native.Nat.{_+_, _-_, _<_, _≤_, min}
+use mathlib.Core.Path.{_≡_, refl, ap, _∙_}
+use Prim.Native.Nat.{_+_, _-_, _≤_}
 use native.Mathlib.Omega.{arith}
 use Rattle.grid.specs.declared.Run.{Run}
-use Rattle.grid.specs.Ring.{ringRows, steps, listed, nearRun, columnsRun}
+use Rattle.grid.specs.Ring.{ringRows, steps}
 use Rattle.grid.proofs.Runs.{columns-step, columns-few}
 use Rattle.network.specs.Nearest.{visitRing}
 use Rattle.network.specs.Tables.{bestOf, itemList}

@@ -1,7 +1,7 @@
 -- `visit_row` visits one cell a turn.
 use mathlib.Core.Path.{_≡_, refl}
 use mathlib.Core.List.{[]}
-use Prim.Native.Nat.{_+_, _-_, _<_, _≤_}
+use Prim.Native.Nat.{_-_}
 use native.Mathlib.Omega.{arith}
 use Rattle.grid.specs.Ring.{rowCells, steps}
 use Rattle.network.specs.Nearest.{visitRing}

@@ -5,9 +5,6 @@ use borrow.Author.Needs.{needs}
 use Rattle.queries_c.specs.Hit.{asHit}
 use Rattle.queries_c.proofs.kartsodi_nearest_indexed.Statement.{statement}
 use Rattle.queries_c.proofs.kartsodi_nearest_indexed.Tie as tie
-use Rattle.queries_c.proofs.kartsodi_nearest_indexed.Reads as reads
-use Rattle.queries_c.proofs.kartsodi_nearest_indexed.Lts as lts
-use Rattle.network.proofs.nearest_lane.Reads as nearest-lane-reads
 
 nearest-lane-requires : tie.Need-nearest-lane-requires
 nearest-lane-requires c κs = search needs

@@ -1,6 +1,6 @@
 -- `Vector::normalize_or` tests the length as the definition does: finite, then above zero.
 use mathlib.Core.Path.{_≡_, _∙_, sym}
-use mathlib.Core.Bool.{true, false, cond, _&&_}
+use mathlib.Core.Bool.{true, false}
 use borrow.Author.Needs.{needs}
 use lib.Ieee.{Float, binary32, div, lt}
 use lib.Ieee.Scale.{finite}

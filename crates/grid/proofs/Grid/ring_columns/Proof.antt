@@ -1,5 +1,4 @@
 -- `Grid::ring_columns` asks first whether the row is an edge.
-use mathlib.Core.Bool.{_||_}
 use borrow.Author.Tests.{eq-eqb, ne-eqb}
 use borrow.Author.Needs.{needs}
 use Rattle.grid.proofs.Grid.ring_columns.Statement.{statement}
