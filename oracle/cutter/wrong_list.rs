@@ -394,15 +394,15 @@ pub const WRONG: &[Wrong] = &[
     // The numbers of queries.
     once("answer.rs", "pub fn nearest(", "c.is_finite()", &["!c.is_nan()"]),
     once("answer.rs", "pub fn route(", "c.is_finite()", &["!c.is_nan()"]),
-    once("answer.rs", "pub fn route(", "chain.len() > MOST_CHAIN", &["chain.len() >= MOST_CHAIN"]),
-    once("answer.rs", "pub fn route(", "points.len() > MOST_ROUTE_POINTS", &["points.len() >= MOST_ROUTE_POINTS"]),
+    once("answer.rs", "pub fn route(", "chain.len() > room.lanes", &["chain.len() >= room.lanes"]),
+    once("answer.rs", "pub fn route(", "points.len() > room.points", &["points.len() >= room.points"]),
     once("answer.rs", "pub fn advance(", "net.centerline_s(from).is_none()", &[
         "distance.is_finite() && net.centerline_s(from).is_none()",
     ]),
     once("answer.rs", "pub fn advance(", "!distance.is_finite()", &["distance.is_nan()"]),
     once("answer.rs", "pub fn advance(", "keys > MOST_KEYS", &["keys >= MOST_KEYS"]),
-    once("answer.rs", "pub fn advance(", "positions.len() > MOST_POSITIONS", &[
-        "positions.len() >= MOST_POSITIONS",
+    once("answer.rs", "pub fn advance(", "positions.len() > room.positions", &[
+        "positions.len() >= room.positions",
         "false",
     ]),
     once("answer.rs", "pub fn beside(", "net.centerline_s(at).is_none()", &["net.road_lane(at.lane).is_none()"]),

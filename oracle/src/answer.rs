@@ -8,12 +8,32 @@ use crate::network::{LaneId, RoadNetwork};
 use crate::reader::{check, scan, Plan, Query, LAST_SIDE};
 use crate::road::LanePosition;
 
-/// What the lists of `plan-run` hold.
-pub const MOST_CHAIN: usize = 257;
-pub const MOST_ROUTE_POINTS: usize = 4_096;
-pub const MOST_POSITIONS: usize = 256;
+/// How long the lists for an answer are; an answer that does not fit them is refused with 14.
+#[derive(Debug, Clone, Copy)]
+pub struct Room {
+    /// Lanes of a route's chain.
+    pub lanes: usize,
+    /// Points of a route.
+    pub points: usize,
+    /// Positions of an advance.
+    pub positions: usize,
+}
+
+impl Room {
+    /// That of `plan-run`.
+    pub const PLAN_RUN: Room = Room { lanes: 257, points: 4_096, positions: 256 };
+}
+
 /// How many keys an advance may enter.
 pub const MOST_KEYS: usize = 1_024;
+
+/// Whether the source's originals run beside their second copies.
+#[derive(Debug, Clone, Copy, PartialEq)]
+pub enum Originals {
+    Compared,
+    /// For timing: each query is answered once.
+    NotRun,
+}
 
 #[derive(Debug, Clone)]
 pub struct Route {
@@ -69,15 +89,21 @@ impl Loaded {
         self.network.as_ref().map_err(|number| *number)
     }
 
+    /// What `plan-run` must answer.
     pub fn answer(&self, query: &Query) -> Answer {
+        self.answer_with(query, Room::PLAN_RUN, Originals::Compared)
+    }
+
+    /// The same with other room, and with the originals or without.
+    pub fn answer_with(&self, query: &Query, room: Room, originals: Originals) -> Answer {
         let network = self.network();
         match *query {
             Query::Nearest { point } => Answer::Nearest(network.and_then(|net| nearest(net, point))),
             Query::Pose { lane, s } => Answer::Pose(network.and_then(|net| pose(net, lane, s))),
-            Query::Route { from, to } => Answer::Route(network.and_then(|net| route(net, from, to))),
+            Query::Route { from, to } => Answer::Route(network.and_then(|net| route(net, from, to, room, originals))),
             Query::Advance { lane, s, offset, distance } => {
                 let from = LanePosition { lane: LaneId(lane), s, offset };
-                Answer::Advance(network.and_then(|net| advance(net, from, distance)))
+                Answer::Advance(network.and_then(|net| advance(net, from, distance, room, originals)))
             }
             // A caller's side is tried after the file's records, and before what the whole file gets.
             Query::Beside { side, .. } if side > LAST_SIDE => {
@@ -103,34 +129,38 @@ pub fn pose(net: &RoadNetwork, lane: usize, s: f32) -> Result<Pose, u8> {
     Ok(lane.center.pose_at(s))
 }
 
-pub fn route(net: &RoadNetwork, from: [f32; 3], to: [f32; 3]) -> Result<Route, u8> {
+pub fn route(net: &RoadNetwork, from: [f32; 3], to: [f32; 3], room: Room, originals: Originals) -> Result<Route, u8> {
     if !from.iter().chain(&to).all(|c| c.is_finite()) {
         return Err(9);
     }
     let (from, to) = (Point::from_array(from), Point::from_array(to));
-    let (start, start_at) = net.nearest_lane(from).ok_or(10)?;
-    let (goal, goal_at) = net.nearest_lane(to).ok_or(10)?;
-    let (chain, length) = chain_between(net, (start, start_at.s), (goal, goal_at.s)).ok_or(11)?;
-    let points = net.sample_route_up_to(MOST_ROUTE_POINTS, &chain, start_at.s, goal_at.s);
-    if chain.len() > MOST_CHAIN || points.len() > MOST_ROUTE_POINTS {
+    let at = |point| net.nearest_lane(point).map(|(lane, nearest)| (lane, nearest.s)).ok_or(10);
+    let (start, goal) = (at(from)?, at(to)?);
+    let found = net.lane_path_cost(start, goal);
+    if originals == Originals::Compared {
+        let chain = found.as_ref().map(|(chain, _)| chain);
+        assert!(net.lane_path(start, goal).as_ref() == chain, "the second copy of lane_path differs");
+    }
+    let (chain, length) = found.ok_or(11)?;
+    let points = net.sample_route_up_to(room.points, &chain, start.1, goal.1);
+    if chain.len() > room.lanes || points.len() > room.points {
         return Err(14);
     }
     // The copy came to its end, so the original does too, in the same time.
-    let original = net.route(from, to).expect("the source finds the route too");
-    assert!(same_points(&original, &points), "the second copy of sample_route differs");
+    if originals == Originals::Compared {
+        let original = net.route(from, to).expect("the source finds the route too");
+        assert!(same_points(&original, &points), "the second copy of sample_route differs");
+    }
     Ok(Route { chain, points, length })
 }
 
-/// The lanes from start to goal with the popped cost, by the second copy of `lane_path`.
-fn chain_between(net: &RoadNetwork, start: (LaneId, f32), goal: (LaneId, f32)) -> Option<(Vec<LaneId>, f32)> {
-    let found = net.lane_path_cost(start, goal);
-    let original = net.lane_path(start, goal);
-    let chain = found.as_ref().map(|(chain, _)| chain);
-    assert!(original.as_ref() == chain, "the second copy of lane_path differs");
-    found
-}
-
-pub fn advance(net: &RoadNetwork, from: LanePosition, distance: f64) -> Result<Advanced, u8> {
+pub fn advance(
+    net: &RoadNetwork,
+    from: LanePosition,
+    distance: f64,
+    room: Room,
+    originals: Originals,
+) -> Result<Advanced, u8> {
     if net.centerline_s(from).is_none() {
         return Err(12);
     }
@@ -138,11 +168,12 @@ pub fn advance(net: &RoadNetwork, from: LanePosition, distance: f64) -> Result<A
         return Err(13);
     }
     let (positions, keys) = net.advance_keys(MOST_KEYS, from, distance);
-    if keys > MOST_KEYS || positions.len() > MOST_POSITIONS {
+    if keys > MOST_KEYS || positions.len() > room.positions {
         return Err(14);
     }
-    let original = net.advance(from, distance);
-    assert!(same_ends(&original, &positions), "the second copy of advance differs");
+    if originals == Originals::Compared {
+        assert!(same_ends(&net.advance(from, distance), &positions), "the second copy of advance differs");
+    }
     Ok(Advanced { keys, positions })
 }
 

@@ -1,18 +1,22 @@
 //! Answers as `plan-run` prints them.
 
 use crate::advance::Advance;
-use crate::answer::{Advanced, Answer, Loaded, Route};
+use crate::answer::{Advanced, Answer, Loaded, Originals, Room, Route};
 use crate::coords::{Point, Vector};
 use crate::road::LanePosition;
 
 /// All that `plan-run` prints for a file.
 pub fn run(file: &[u8]) -> String {
+    run_with(file, Originals::Compared)
+}
+
+pub fn run_with(file: &[u8], originals: Originals) -> String {
     let loaded = Loaded::new(file);
     let mut text = String::new();
     plan_line(&mut text, &loaded);
     if let Ok(plan) = loaded.plan() {
         for query in &plan.queries {
-            answer(&mut text, &loaded.answer(query));
+            answer(&mut text, &loaded.answer_with(query, Room::PLAN_RUN, originals));
         }
     }
     text

@@ -1,6 +1,6 @@
 //! The cases that document 01 prints and works out.
 
-use kartsodi_oracle::answer::{advance, beside, nearest, route, Loaded};
+use kartsodi_oracle::answer::{beside, nearest, Answer, Loaded, Originals, Room};
 use kartsodi_oracle::gen::{junction, Case};
 use kartsodi_oracle::grid::Grid;
 use kartsodi_oracle::network::LaneId;
@@ -65,8 +65,8 @@ fn coordinates_and_points() {
 /// Chain, points along x, and length of a case's one route.
 fn route_of(name: &str) -> Result<(Vec<usize>, Vec<f32>, f32), u8> {
     let loaded = Loaded::new(&case(name).file);
-    let Query::Route { from, to } = loaded.plan()?.queries[0] else { panic!("the case asks for a route") };
-    let found = route(loaded.network()?, from, to)?;
+    let Answer::Route(found) = loaded.answer(&loaded.plan()?.queries[0]) else { panic!("the case asks for a route") };
+    let found = found?;
     let chain = found.chain.iter().map(|lane| lane.0).collect();
     Ok((chain, found.points.iter().map(|p| p.x).collect(), found.length))
 }
@@ -131,10 +131,26 @@ fn limits_of_answers() {
 }
 
 #[test]
+fn limits_are_those_of_the_room() {
+    let count = |name: &str, room: Room| {
+        let loaded = Loaded::new(&case(name).file);
+        match loaded.answer_with(&loaded.plan()?.queries[0], room, Originals::Compared) {
+            Answer::Route(found) => found.map(|route| route.points.len()),
+            Answer::Advance(found) => found.map(|advanced| advanced.positions.len()),
+            _ => panic!("the case asks for a route or an advance"),
+        }
+    };
+    let longer = Room { points: 4_097, positions: 257, ..Room::PLAN_RUN };
+    assert_eq!([count("points-4097", longer), count("positions-257", longer)], [Ok(4_097), Ok(257)]);
+    assert_eq!(count("chain-257", Room { lanes: 256, ..longer }), Err(14));
+    assert_eq!(count("keys-1025", Room { positions: 2_000, ..longer }), Err(14), "keys have their own limit");
+}
+
+#[test]
 fn an_advance_may_be_empty() {
     assert_eq!(printed("nothing-advanced").lines().nth(1), Some("advance 0 1 0"));
     let loaded = Loaded::new(&case("nothing-advanced").file);
-    let from = kartsodi_oracle::road::LanePosition { lane: LaneId(1), s: 2.0, offset: 0.0 };
-    let found = advance(loaded.network().unwrap(), from, 7.0).unwrap();
+    let asked = Query::Advance { lane: 1, s: 2.0, offset: 0.0, distance: 7.0 };
+    let Answer::Advance(Ok(found)) = loaded.answer(&asked) else { panic!("an advance is answered") };
     assert_eq!((found.keys, found.positions.len()), (1, 0));
 }

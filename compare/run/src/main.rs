@@ -4,9 +4,11 @@
 //! answers each query once, where `oracle-run` runs the source's function and its second copy. As `bench-run nothing` it is the empty program.
 
 mod files;
-mod rust;
 
+use kartsodi_oracle::answer::Originals;
+use kartsodi_oracle::print::run_with;
 use std::fs::File;
+use std::io::{Read, Write};
 use std::path::Path;
 use std::process::{Command, Stdio};
 use std::time::Instant;
@@ -79,9 +81,17 @@ fn bench(rounds: usize) {
     }
 }
 
+/// The Rust's side: answers the plan on standard input by the source's functions, each query once.
+fn rust() {
+    let mut file = Vec::new();
+    std::io::stdin().read_to_end(&mut file).expect("standard input can be read");
+    let text = run_with(&file, Originals::NotRun);
+    std::io::stdout().write_all(text.as_bytes()).expect("standard output can be written");
+}
+
 fn main() {
     match std::env::args().nth(1).as_deref() {
-        Some("rust") => rust::run(),
+        Some("rust") => rust(),
         Some("nothing") => {}
         rounds => bench(rounds.map_or(51, |word| word.parse().expect("a number of rounds"))),
     }
