@@ -15,6 +15,14 @@ pub struct Counts {
     pub places: usize,
 }
 
+/// What reading a file into tables answers.
+#[repr(C)]
+#[derive(Debug, Clone, Copy, PartialEq, Default)]
+pub struct Read {
+    pub number: usize,
+    pub counts: Counts,
+}
+
 #[derive(Clone)]
 pub struct Tables {
     pub lanes: Vec<usize>,
@@ -34,6 +42,22 @@ pub struct Tables {
 pub const SIZES: [usize; 11] = [1536, 12288, 1536, 1280, 4096, 256, 128, 4096, 768, 4096, 12288];
 /// How far the tables are longer than they need be.
 const SPARE: usize = 7;
+
+/// Writes the function `$name`, over a linked one that reads a file into the tables named. A slice is handed over as a pointer and a length.
+#[macro_export]
+macro_rules! reader {
+    ($name:ident, $linked:ident: $($table:ident $entry:ty),*) => {
+        fn $name(file: &[u8], side: usize, t: &mut $crate::tables::Tables) -> $crate::tables::Read {
+            extern "C" {
+                fn $linked(
+                    file: *const u8, file_len: usize, side: usize, $(_: *mut $entry, _: usize),*
+                ) -> $crate::tables::Read;
+            }
+            // Each pointer is that of a slice that lives through the call, with its own length.
+            unsafe { $linked(file.as_ptr(), file.len(), side, $(t.$table.as_mut_ptr(), t.$table.len()),*) }
+        }
+    };
+}
 
 impl Tables {
     /// Tables full of one whole number and one float.

@@ -1,17 +1,11 @@
 //! The proved calls, through the static libraries: the public calls, and the queries over the rows of a plan that is loaded once.
 
 use crate::answer::{Answer, Lists};
+use compare_common::reader;
 use compare_common::tables::{Counts, Tables};
 use kartsodi::lent::{self, Advanced, BesideAnswer, NearestAnswer, Posed, RouteAnswer};
 use kartsodi::{LaneId, LanePosition, Point, Projection};
 use kartsodi_oracle::reader::Query;
-
-#[repr(C)]
-#[derive(Debug, Clone, Copy, PartialEq, Default)]
-struct Read {
-    number: usize,
-    counts: Counts,
-}
 
 #[repr(C)]
 #[derive(Clone, Copy)]
@@ -39,22 +33,14 @@ struct Hit {
     projection: Projection,
 }
 
+reader!(
+    open, kartsodi_open:
+    lanes usize, points f32, ends f32, fans usize, links usize,
+    sections usize, bounds f64, stations f64, places usize, cumulative f32, tangents f32
+);
+
 extern "C" {
     // A slice is a pointer and a length.
-    fn kartsodi_open(
-        file: *const u8, file_len: usize, side: usize,
-        lanes: *mut usize, lanes_len: usize,
-        points: *mut f32, points_len: usize,
-        ends: *mut f32, ends_len: usize,
-        fans: *mut usize, fans_len: usize,
-        links: *mut usize, links_len: usize,
-        sections: *mut usize, sections_len: usize,
-        bounds: *mut f64, bounds_len: usize,
-        stations: *mut f64, stations_len: usize,
-        places: *mut usize, places_len: usize,
-        cumulative: *mut f32, cumulative_len: usize,
-        tangents: *mut f32, tangents_len: usize,
-    ) -> Read;
     fn kartsodi_driving(
         lanes: *const usize, lanes_len: usize, n: usize,
         points: *const f32, points_len: usize,
@@ -200,23 +186,7 @@ impl Rows {
 
     /// Reads the plan of a file into the tables, without its index.
     pub fn load(&mut self, file: &[u8]) -> usize {
-        let t = &mut self.t;
-        let read = unsafe {
-            kartsodi_open(
-                file.as_ptr(), file.len(), 0,
-                t.lanes.as_mut_ptr(), t.lanes.len(),
-                t.points.as_mut_ptr(), t.points.len(),
-                t.ends.as_mut_ptr(), t.ends.len(),
-                t.fans.as_mut_ptr(), t.fans.len(),
-                t.links.as_mut_ptr(), t.links.len(),
-                t.sections.as_mut_ptr(), t.sections.len(),
-                t.bounds.as_mut_ptr(), t.bounds.len(),
-                t.stations.as_mut_ptr(), t.stations.len(),
-                t.places.as_mut_ptr(), t.places.len(),
-                t.cumulative.as_mut_ptr(), t.cumulative.len(),
-                t.tangents.as_mut_ptr(), t.tangents.len(),
-            )
-        };
+        let read = open(file, 0, &mut self.t);
         self.counts = read.counts;
         read.number
     }
