@@ -2,7 +2,7 @@
 
 use compare_common::{all32, all64};
 use kartsodi_oracle::advance::Advance;
-use kartsodi_oracle::answer;
+use kartsodi_oracle::answer::{self, Room};
 
 /// The number, and the other fields in the order in which they stand: whole numbers, then floats. An f32 as an f64 is exact.
 #[derive(Debug, Clone, Copy, Default)]
@@ -31,8 +31,16 @@ pub struct Lists {
     pub metres: Vec<f64>,
 }
 
-/// What `plan-run` lends: 257 lanes, 4,096 points, 256 positions.
-pub const ROOM: [usize; 4] = [257, 3 * 4096, 2 * 256, 3 * 256];
+/// The lengths of lists with this room: a point has three entries, a position two in `rows` and three in `metres`.
+pub const fn lengths(room: Room) -> [usize; 4] {
+    [room.lanes, 3 * room.points, 2 * room.positions, 3 * room.positions]
+}
+
+/// What `plan-run` lends.
+pub const ROOM: [usize; 4] = lengths(Room::PLAN_RUN);
+
+/// The most that is lent: more than `plan-run` does, and all that an advance can fill, which enters 1,024 keys from two ways of the first lane.
+pub const MOST: Room = Room { lanes: 300, points: 20_000, positions: 1_026 };
 
 impl Lists {
     /// Lists of these lengths, full of one whole number and one float.
@@ -63,13 +71,14 @@ impl Lists {
 /// How long the lists are that an answer fills.
 pub fn filled(answer: &answer::Answer) -> [usize; 4] {
     match answer {
-        answer::Answer::Route(Ok(r)) => [r.chain.len(), 3 * r.points.len(), 0, 0],
-        answer::Answer::Advance(Ok(a)) => [0, 0, 2 * a.positions.len(), 3 * a.positions.len()],
+        answer::Answer::Route(Ok(r)) => lengths(Room { lanes: r.chain.len(), points: r.points.len(), positions: 0 }),
+        answer::Answer::Advance(Ok(a)) => lengths(Room { lanes: 0, points: 0, positions: a.positions.len() }),
         _ => [0; 4],
     }
 }
 
-/// The oracle's answer with these lists: what it says, and the lists after it. A list that is too short makes 14.
+/// The oracle's answer with these lists: what it says, which was asked with as much room or more, and the lists after it. A list that is too short
+/// makes 14.
 pub fn expected(said: &answer::Answer, lists: &mut Lists) -> Answer {
     if filled(said).iter().zip(lists.room()).any(|(need, room)| *need > room) {
         return Answer::refused(14);

@@ -4,16 +4,12 @@
 //! `compare-lanes [rows] pose|nearest|route|advance|beside [COUNT [SEED]]`, built by `compare/build lanes`.
 //! With `rows` the plan is loaded once, and the query asked of its rows.
 
-
-
-
-
-use compare_lanes::answer::{expected, filled, Answer, Lists};
 use compare_common::tables::{Tables, SIZES};
+use compare_lanes::answer::{expected, filled, Answer, Lists, MOST};
 use compare_lanes::draw::{self, kind_of, Kind};
 use compare_lanes::ours;
-use kartsodi_oracle::answer::Loaded;
-use kartsodi_oracle::gen::{plans, Case};
+use kartsodi_oracle::answer::{Loaded, Originals, Room};
+use kartsodi_oracle::gen::Case;
 use kartsodi_oracle::query::to_line;
 use kartsodi_oracle::reader::{scan, Query};
 use kartsodi_oracle::rng::Rng;
@@ -25,6 +21,9 @@ const MARKS: [(usize, f32); 3] = [(usize::MAX, -77.5), (0, 0.0), (3, 1e30)];
 #[derive(Default)]
 struct Tally {
     numbers: [usize; 16],
+    /// Answers longer than the program's lists, and the points or positions of the longest.
+    longer: usize,
+    longest: usize,
     passed: usize,
     failed: usize,
 }
@@ -32,6 +31,15 @@ struct Tally {
 impl Tally {
     fn note(&mut self, case: &Case, query: &Query, wanted: &Answer, gave: &Answer, lists: Result<(), &str>, tables: Result<(), &str>) {
         self.numbers[wanted.number] += 1;
+        let lent = match query {
+            Query::Route { .. } => Room::PLAN_RUN.points,
+            Query::Advance { .. } => Room::PLAN_RUN.positions,
+            _ => usize::MAX,
+        };
+        if wanted.wholes[1] > lent {
+            self.longer += 1;
+            self.longest = self.longest.max(wanted.wholes[1]);
+        }
         if gave.same(wanted) && lists.is_ok() && tables.is_ok() {
             self.passed += 1;
             return;
@@ -66,7 +74,7 @@ fn over_rows(rng: &mut Rng, case: &Case, loaded: &Loaded, queries: &[Query], tal
         if matches!(query, Query::Beside { side, .. } if *side > 1) {
             continue;
         }
-        let said = loaded.answer(query);
+        let said = loaded.answer_with(query, MOST, Originals::Compared);
         let mut lists = Lists::full_of(draw::room(rng, filled(&said)), whole, float);
         let mut after = lists.clone();
         let wanted = expected(&said, &mut after);
@@ -85,7 +93,7 @@ fn by_call(rng: &mut Rng, case: &Case, loaded: &Loaded, queries: &[Query], lent:
         after.load_lines(plan);
     }
     for query in queries {
-        let said = loaded.answer(query);
+        let said = loaded.answer_with(query, MOST, Originals::Compared);
         let mut lists = Lists::full_of(draw::room(rng, filled(&said)), whole, float);
         let mut filled = lists.clone();
         // number 1: a table one entry shorter than its limit
@@ -138,7 +146,7 @@ fn main() {
     let mut lent = Lent { tables: Tables::marked(), last: Tables::marked() };
     let start = Instant::now();
     let mut files = 0;
-    for case in plans(seed, usize::MAX) {
+    for case in draw::cases(kind, seed) {
         if tally.passed + tally.failed >= count {
             break;
         }
@@ -160,6 +168,11 @@ fn main() {
     let seconds = start.elapsed().as_secs_f64();
     println!("{kind:?}: {files} plans, seed {seed}, {:.0} calls a second with the oracle's", (tally.passed + tally.failed) as f64 / seconds);
     println!("numbers seen, 0 to 15: {:?}", tally.numbers);
+    if let Kind::Route | Kind::Advance = kind {
+        let Tally { longer, longest, .. } = tally;
+        let what = if kind == Kind::Route { "points" } else { "positions" };
+        println!("answers longer than the program's lists: {longer}, with up to {longest} {what}");
+    }
     println!("{} passed, {} failed", tally.passed, tally.failed);
     std::process::exit(i32::from(tally.failed != 0));
 }
