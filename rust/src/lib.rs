@@ -20,6 +20,8 @@
 //!
 //! A query takes the plan by `&mut`, since it works in the plan's memory; the answer depends on the file and the query alone. The library has no
 //! state: plans in different threads do not disturb one another. A call takes up to 340 kilobytes of stack.
+//!
+//! Queries panic over a library of another version, where it gives a number that this crate does not know.
 
 #![deny(missing_docs)]
 
@@ -228,8 +230,14 @@ impl fmt::Debug for Plan {
 /// No lane has this number: a plan's are of 16 bits.
 const NO_LANE: LaneId = LaneId(usize::MAX);
 
+/// Only 0 is an answer. The calls give 0 to 15, so another number says that the library is not the one that this crate stands over, and that what
+/// comes with the number means nothing.
 fn answered(number: usize) -> Result<(), Refusal> {
-    Refusal::from_number(number).map_or(Ok(()), Err)
+    match Refusal::from_number(number) {
+        Some(refusal) => Err(refusal),
+        None if number == 0 => Ok(()),
+        None => panic!("libkartsodi.a gave number {number}, which this crate does not know: their versions differ"),
+    }
 }
 
 impl Plan {
@@ -309,5 +317,24 @@ impl Plan {
         let said = lent::beside(&self.file, lane, s, side as usize, self.tables.lend());
         answered(said.number)?;
         Ok(said.at)
+    }
+}
+
+#[cfg(test)]
+mod tests {
+    use super::{answered, Refusal};
+
+    #[test]
+    fn only_0_is_an_answer() {
+        assert_eq!(answered(0), Ok(()));
+        for number in 1..16 {
+            assert_eq!(answered(number).map_err(Refusal::number), Err(number));
+        }
+    }
+
+    #[test]
+    #[should_panic(expected = "number 16, which this crate does not know")]
+    fn an_unknown_number_is_no_answer() {
+        let _ = answered(16);
     }
 }

@@ -191,6 +191,16 @@ fn room() {
     assert_eq!(ask(2, 5, 1), (Some(Refusal::TooMuch), None));
 }
 
+/// A route of 4,097 points, one more than the default has room for.
+#[test]
+fn more_room() {
+    let file = File::default().lane(1, FORWARD, &[-4096.0, 4096.0]);
+    assert_eq!(file.plan().route(x(-4096.0), x(4096.0)), Err(Refusal::TooMuch));
+    let mut plan = Plan::with_room(&file.0, Room { points: 4097, ..Room::default() }).unwrap();
+    let points = plan.route(x(-4096.0), x(4096.0)).unwrap().points;
+    assert_eq!(points, (-2048..=2048).map(|k| x(2.0 * k as f32)).collect::<Vec<_>>());
+}
+
 /// Tables of these lengths, lent for a pose: its number, and whether they are all as before.
 fn posed_with(lengths: [usize; 11]) -> (usize, bool) {
     const MARK: usize = 77;
