@@ -10,7 +10,7 @@
  * hold the plan, so that they may be looked at, and entries past it are as before; after numbers 1 to 8 they are all as before. They need no set
  * values and may be lent again, for any file. List entries past an answer, and the lists of a refused query, are as before.
  * What the caller owes: each pointer is aligned for its type and is not null, also where its length is 0; lengths count entries, not bytes;
- * no two pieces of memory lent to one call overlap. The stack has 400 kilobytes free.
+ * no two pieces of memory lent to one call overlap. A call takes up to 342 kilobytes of stack; a thread with 400 is safe.
  *
  * Threads: there is no state. Calls may run at the same time where each is lent its own tables and lists; a file may be shared.
  * Floats: the processor rounds to nearest and keeps subnormal numbers, as it does unless a program changes that (-ffast-math at linking does).
@@ -116,7 +116,8 @@ typedef struct {
     float tangents[3 * KARTSODI_MAX_POINTS];    /* x, y, z at each point */
 } kartsodi_tables;
 
-/* The parameters of a call for the tables, and the arguments for them out of a `kartsodi_tables *`. */
+/* The parameters of a call for the tables, and the arguments for them out of a `kartsodi_tables *`. KARTSODI_LEND evaluates its argument eleven
+ * times, so it should be one without effects, as &tables. KARTSODI_ARRAY is for arrays: a pointer has no length. */
 #define KARTSODI_TABLES                                                                                       \
     size_t *lanes, size_t lanes_length, float *points, size_t points_length, float *ends, size_t ends_length, \
     size_t *fans, size_t fans_length, size_t *links, size_t links_length,                                     \

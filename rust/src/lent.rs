@@ -128,7 +128,7 @@ calls! {
 macro_rules! call {
     ($name:ident, $file:ident, ($($field:expr),*), $t:ident, [$($list:ident),*]) => {
         // SAFETY: each pointer and length are those of a slice that is borrowed for the whole call; the file is borrowed shared and all others
-        // exclusively, so none overlap. The call keeps no pointer, and its contract has no condition. Where the stack is too short for it (340
+        // exclusively, so none overlap. The call keeps no pointer, and its contract has no condition. Where the stack is too short for it (342
         // kilobytes), it stops at the guard page: it touches its frame page by page.
         unsafe {
             $name(

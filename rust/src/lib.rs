@@ -19,7 +19,7 @@
 //! ```
 //!
 //! A query takes the plan by `&mut`, since it works in the plan's memory; the answer depends on the file and the query alone. The library has no
-//! state: plans in different threads do not disturb one another. A call takes up to 340 kilobytes of stack.
+//! state: plans in different threads do not disturb one another. A call takes up to 342 kilobytes of stack.
 //!
 //! Queries panic over a library of another version, where it gives a number that this crate does not know.
 
