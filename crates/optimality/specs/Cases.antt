@@ -1,25 +1,24 @@
 -- The cases of document 01 on chains: what the search finds over the tables, and what the chains of the link records cost.
 use mathlib.Core.Bool.{Bool, false, not, true, true≢false, _&&_}
-use mathlib.Core.List.{List, List·Memᴰ, List·Memᴰ·cases-cons, List·Memᴰ·not-nil, map, [], _∷_}
+use mathlib.Core.List.{List, List·Memᴰ, List·Memᴰ·cases-cons, List·Memᴰ·not-nil, [], _∷_}
 use mathlib.Core.Logic.{inl, inr, _⊎_, _≢_}
 use mathlib.Core.Path.{refl, subst, sym, _≡_}
-use Prim.Native.Nat.{suc, ℕ, _<_}
-use native.Mathlib.Omega.{arith}
+use Prim.Native.Nat.{ℕ}
 use lib.Count.{trailingZeros}
-use lib.Dec.{lit<}
 use lib.IntN.{pos}
 use lib.Ieee.{Float, add, eq, fin, isNan, lt, odd, ofBits, round, size, sum, units}
+use borrow.Author.Tests.{eqb-false}
 use Rattle.float.specs.Sign.{isNegative}
-use Rattle.float.specs.declared.choose.Order.{Order}
 use Rattle.float.specs.declared.choose.Order.the-variants.{Greater}
 use Rattle.plan_format.specs.Plan.{indexOf}
 use Rattle.plan_format.specs.Records.{Link}
+use Rattle.plan_format.specs.Tables.{linked}
 use Rattle.rows.specs.Rows.{laneNumber}
 use Rattle.search.specs.LaneGraph.{LaneGraph, edges, f32Costs, laneChange, laneGraph, out, searchedIn}
 use Rattle.search.specs.Search.{Result, blank, expanded, found, leastOpen, marked, rebuild, refused, relaxed, run, searched, settled}
 use Rattle.optimality.specs.Chains.{addSteps, chainCost, changeCost, hasLink, isChain, leadsTo, stepCost}
-use Rattle.optimality.specs.Heap.{Entry, Pops, Runs, Taken, back, begun, compareEntries, first, fresh, further, later}
-use Rattle.optimality.specs.Heap.{push, pushAll, reached}
+use Rattle.optimality.specs.Heap.{Entry, Pops, Runs, Taken, back, begun, compareEntries, edgesFrom, first, fresh, further, later}
+use Rattle.optimality.specs.Heap.{numbered, push, pushAll, reached}
 use Rattle.optimality.specs.HeapOrder.{isGreater, not-greater}
 
 -- 8, 16, 30 and 32 m
@@ -64,6 +63,13 @@ fourLinks = link 1 0 2 ∷ link 1 0 3 ∷ link 2 0 4 ∷ link 3 0 4 ∷ []
 abbrev bothGraph : LaneGraph
 bothGraph = laneGraph 2 (fan 0 1 1 (fan 2 0 0 [])) (2 ∷ 1 ∷ 2 ∷ 1 ∷ []) (m32 ∷ m8 ∷ [])
 
+-- a lane with the goal as neighbour, and as successor lane 9, which is missing: its row is 256
+abbrev missingGraph : LaneGraph
+missingGraph = laneGraph 2 (fan 0 1 1 (fan 2 0 0 [])) (9 ∷ 256 ∷ 2 ∷ 1 ∷ []) (m8 ∷ m8 ∷ [])
+
+abbrev missingLinks : List Link
+missingLinks = link 1 0 9 ∷ link 1 2 2 ∷ []
+
 -- a lane with itself as successor, and one without
 abbrev closedGraph : LaneGraph
 closedGraph = laneGraph 1 (fan 0 1 0 []) (1 ∷ 0 ∷ []) (m8 ∷ [])
@@ -71,55 +77,55 @@ closedGraph = laneGraph 1 (fan 0 1 0 []) (1 ∷ 0 ∷ []) (m8 ∷ [])
 abbrev loneGraph : LaneGraph
 loneGraph = laneGraph 1 (fan 0 0 0 []) [] (m8 ∷ [])
 
--- what the search finds, with the numbers of its lanes
-abbrev numbered : List ℕ → Result Float → Result Float
-numbered lanes refused = refused
-numbered lanes (found chain cost) = found (map (laneNumber lanes) chain) cost
-
--- chain 1, 3, 4; cost 30; chain 1, 1; none
-searches : (numbered fourLanes (searchedIn fourLanes fourGraph 0 3) ≡ found (1 ∷ 3 ∷ 4 ∷ []) m16)
-    × (numbered (laneRow 1 (laneRow 2 [])) (searchedIn (laneRow 1 (laneRow 2 [])) bothGraph 0 1) ≡ found (1 ∷ 2 ∷ []) m30)
-    × (numbered (laneRow 1 []) (searchedIn (laneRow 1 []) closedGraph 0 0) ≡ found (1 ∷ 1 ∷ []) m8)
+-- chain 1, 3, 4; cost 30; past the missing lane; chain 1, 1; none
+searches : (numbered (laneNumber fourLanes) (searchedIn fourLanes fourGraph 0 3) ≡ found (1 ∷ 3 ∷ 4 ∷ []) m16)
+    × (numbered (laneNumber (laneRow 1 (laneRow 2 []))) (searchedIn (laneRow 1 (laneRow 2 [])) bothGraph 0 1) ≡ found (1 ∷ 2 ∷ []) m30)
+    × (numbered (laneNumber (laneRow 1 (laneRow 2 []))) (searchedIn (laneRow 1 (laneRow 2 [])) missingGraph 0 1) ≡ found (1 ∷ 2 ∷ []) m30)
+    × (numbered (laneNumber (laneRow 1 [])) (searchedIn (laneRow 1 []) closedGraph 0 0) ≡ found (1 ∷ 1 ∷ []) m8)
     × (searchedIn (laneRow 1 []) loneGraph 0 0 ≡ refused)
 unfolding searched run settled expanded relaxed leastOpen marked rebuild blank edges out ofBits lt add sum round size units odd trailingZeros
-searches = (refl, refl, refl, refl)
+searches = (refl, refl, refl, refl, refl)
 
--- ---- the heap form on the four lanes
-abbrev compareFour : Entry Float → Entry Float → Order
-compareFour = compareEntries (laneNumber fourLanes)
-
+-- ---- the heap form
 abbrev noneGreater : Entry Float → List (Entry Float) → Bool
 noneGreater e [] = true
-noneGreater e (x ∷ xs) = not (isGreater (compareFour x e)) && noneGreater e xs
+noneGreater e (x ∷ xs) = not (isGreater (compareEntries x e)) && noneGreater e xs
 
 none-greater : (e : Entry Float) (heap : List (Entry Float)) → noneGreater e heap ≡ true → (x : Entry Float) → List·Memᴰ x heap
-    → compareFour x e ≢ Greater
+    → compareEntries x e ≢ Greater
 none-greater e [] h x m = absurd (List·Memᴰ·not-nil m)
-none-greater e (y ∷ ys) h x m = go (isGreater (compareFour y e)) refl h (none-greater e ys) (List·Memᴰ·cases-cons m)
+none-greater e (y ∷ ys) h x m = go (isGreater (compareEntries y e)) refl h (none-greater e ys) (List·Memᴰ·cases-cons m)
   where
-    go : (b : Bool) → isGreater (compareFour y e) ≡ b → (not b && noneGreater e ys) ≡ true
-        → (noneGreater e ys ≡ true → (z : Entry Float) → List·Memᴰ z ys → compareFour z e ≢ Greater)
-        → (x ≡ y) ⊎ List·Memᴰ x ys → compareFour x e ≢ Greater
+    go : (b : Bool) → isGreater (compareEntries y e) ≡ b → (not b && noneGreater e ys) ≡ true
+        → (noneGreater e ys ≡ true → (z : Entry Float) → List·Memᴰ z ys → compareEntries z e ≢ Greater)
+        → (x ≡ y) ⊎ List·Memᴰ x ys → compareEntries x e ≢ Greater
     go true q h ih c = absurd (true≢false (sym h))
-    go false q h ih (inl p) = subst (λ (z : Entry Float). compareFour z e ≢ Greater) (sym p) (not-greater _ q)
+    go false q h ih (inl p) = subst (λ (z : Entry Float). compareEntries z e ≢ Greater) (sym p) (not-greater _ q)
     go false q h ih (inr m′) = ih h x m′
 
-pops : (e : Entry Float) (heap rest : List (Entry Float)) → Taken e heap rest → noneGreater e heap ≡ true → Pops compareFour heap e rest
+pops : (e : Entry Float) (heap rest : List (Entry Float)) → Taken e heap rest → noneGreater e heap ≡ true → Pops compareEntries heap e rest
 pops e heap rest t h = record { taken = t; greatest = none-greater e heap h }
 
-not-last : (u : ℕ) → u < 3 → u ≢ 3
-not-last u l p = omega arith
-
-not-start : (u : ℕ) → suc u ≢ 0
-not-start u p = omega arith
+-- the loop from one lane to another, over lanes with these numbers and lengths, gives this
+abbrev HeapRun : List ℕ → List Float → List Link → ℕ → ℕ → Result Float → Type 0
+HeapRun numbers lengths links start goal r =
+    let from = edgesFrom numbers lengths links in
+    Runs f32Costs compareEntries from start goal (begun f32Costs compareEntries from start goal) r
 
 -- lanes 2 and 3 cost the same: 3 is popped first, then 2, whose link does not improve on lane 4, and then 4
-heap-run : Runs f32Costs compareFour (out fourGraph) 256 0 3 (begun f32Costs compareFour (out fourGraph) 256 0 3) (found (0 ∷ 2 ∷ 3 ∷ []) m16)
-unfolding pushAll push edges out ofBits lt eq isNan isNegative add sum round size units odd trailingZeros
+heap-run : HeapRun (1 ∷ 2 ∷ 3 ∷ 4 ∷ []) (m8 ∷ m8 ∷ m8 ∷ m8 ∷ []) fourLinks 1 4 (found (1 ∷ 3 ∷ 4 ∷ []) m16)
+unfolding pushAll push edgesFrom linked indexOf ofBits lt eq isNan isNegative add sum round size units odd trailingZeros
 heap-run =
-    fresh (pops _ _ _ first refl) (not-last 2 (lit< tt)) refl
-    (fresh (pops _ _ _ (later first) refl) (not-last 1 (lit< tt)) refl
-    (reached (pops _ _ _ first refl) refl (further refl (not-start 1) (back refl refl))))
+    fresh (pops _ _ _ first refl) (eqb-false 3 4 refl) refl
+    (fresh (pops _ _ _ (later first) refl) (eqb-false 2 4 refl) refl
+    (reached (pops _ _ _ first refl) refl (further refl (eqb-false 3 1 refl) (back refl))))
+
+-- lane 9 is missing: its entry, at 8, is popped before lane 2's, at 30, and pushes nothing
+missing-run : HeapRun (1 ∷ 2 ∷ []) (m8 ∷ m8 ∷ []) missingLinks 1 2 (found (1 ∷ 2 ∷ []) m30)
+unfolding pushAll push edgesFrom linked indexOf ofBits lt eq isNan isNegative add sum round size units odd trailingZeros
+missing-run =
+    fresh (pops (record { cost = m8; lane = 9 }) _ _ (later first) refl) (eqb-false 9 2 refl) refl
+    (reached (pops (record { cost = m30; lane = 2 }) _ [] first refl) refl (back refl))
 
 -- the same chains of link records; a single lane is none
 chains : (isChain fourLinks 1 4 (1 ∷ 3 ∷ 4 ∷ []) ≡ true) × (isChain (link 1 0 1 ∷ []) 1 1 (1 ∷ 1 ∷ []) ≡ true)

@@ -27,10 +27,10 @@ pub taken-in : {C : Type 0} {e : Entry C} {xs ys : List (Entry C)} → Taken e x
 taken-in first = List·Memᴰ·head refl
 taken-in (later t) = List·Memᴰ·tail (taken-in t)
 
-module _ {C : Type 0} (K : Costs C) (L : Laws K) (num : ℕ → ℕ) where
+module _ {C : Type 0} (K : Costs C) (L : Laws K) where
   -- x costs no less than e, and has no larger number where the costs are equal
   abbrev pub NotBefore : Entry C → Entry C → Type 0
-  NotBefore x e = (L .size (e .cost) ≤ L .size (x .cost)) × (L .size (e .cost) ≡ L .size (x .cost) → num (x .lane) ≤ num (e .lane))
+  NotBefore x e = (L .size (e .cost) ≤ L .size (x .cost)) × (L .size (e .cost) ≡ L .size (x .cost) → x .lane ≤ e .lane)
 
   -- among costs, the entries that are not greater than e are those that do not go before it
   pub record Ordered (cmp : Entry C → Entry C → Order) : Type 0 where
@@ -48,10 +48,10 @@ module _ {C : Type 0} (K : Costs C) (L : Laws K) (num : ℕ → ℕ) where
       b = L .size (e .cost)
 
       u : ℕ
-      u = num (x .lane)
+      u = x .lane
 
       v : ℕ
-      v = num (e .lane)
+      v = e .lane
 
       go : (p q r : Bool) → ltb a b ≡ p → ltb b a ≡ q → ltb v u ≡ r → NotBefore x e ⊎ NotBefore e x
       go true q r tp tq tr = let l = ltb-true a b tp in inr (omega arith, λ s. omega arith)
@@ -195,17 +195,14 @@ module _ (a b c d : ℕ) where
       go false false false false tp tq tr ts = not-greater Equal refl
 
 -- THE ORDER: `Ord for State` puts the smaller cost first, and among equals the larger number
-module _ (num : ℕ → ℕ) where
-  by-numbers : (x e : Entry Float) → Cost (x .cost) → Cost (e .cost)
-      → compareEntries num x e
-      ≡ thenWith (compareNumbers (size-of (e .cost)) (size-of (x .cost))) (compareNumbers (num (x .lane)) (num (e .lane)))
-  by-numbers x e p q =
-      ap (λ (o : Order). thenWith o (compareNumbers (num (x .lane)) (num (e .lane)))) (total-cost (e .cost) (x .cost) q p)
+by-numbers : (x e : Entry Float) → Cost (x .cost) → Cost (e .cost)
+    → compareEntries x e ≡ thenWith (compareNumbers (size-of (e .cost)) (size-of (x .cost))) (compareNumbers (x .lane) (e .lane))
+by-numbers x e p q = ap (λ (o : Order). thenWith o (compareNumbers (x .lane) (e .lane))) (total-cost (e .cost) (x .cost) q p)
 
-  pub entries-ordered : Ordered f32Costs f32-laws num (compareEntries num)
-  unfolding f32-laws
-  entries-ordered =
-      record {
-        not-before = λ x e p q g. at-most _ _ _ _ (λ h. g (by-numbers x e p q ∙ h));
-        not-greater = λ x e p q h g. not-more _ _ _ _ h (sym (by-numbers x e p q) ∙ g);
-      }
+pub entries-ordered : Ordered f32Costs f32-laws compareEntries
+unfolding f32-laws
+entries-ordered =
+    record {
+      not-before = λ x e p q g. at-most _ _ _ _ (λ h. g (by-numbers x e p q ∙ h));
+      not-greater = λ x e p q h g. not-more _ _ _ _ h (sym (by-numbers x e p q) ∙ g);
+    }

@@ -1,14 +1,18 @@
--- What the heap form answers is what the array form answers, and its loop ends.
--- Each open lane with an entry has it in the heap; every other entry is stale. So a popped entry that is not stale is that of the least
--- open lane, the goal's is never stale, and no lane is expanded twice but the start, which is expanded first without an entry.
-use mathlib.Core.Bool.{Bool, false, true}
-use mathlib.Core.List.{List, List·Memᴰ, List·Memᴰ·cases-cons, List·Memᴰ·head, List·Memᴰ·not-nil, List·Memᴰ·tail, [], _∷_}
+-- What the heap form answers is what the array form answers, with numbers for rows, and its loop ends.
+-- Each open lane with an entry has it in the heap; every other entry is stale, or that of a missing lane, which has no edges. So a popped
+-- entry of a lane that is there and that is not stale is that of the least open lane, the goal's is never stale, and no lane is expanded
+-- twice but the start, which is expanded first without an entry, and those that are missing, which takes their entry out of the heap and
+-- leaves the rest as it is.
+use mathlib.Core.Bool.{Bool, cond, false, true}
+use mathlib.Core.List.{List, List·Memᴰ, List·Memᴰ·cases-cons, List·Memᴰ·head, List·Memᴰ·not-nil, List·Memᴰ·tail, [], map, _∷_}
 use mathlib.Core.Logic.{inl, inr, ⊎-elim, _⊎_, _≢_}
+use mathlib.Core.Option.{Option, Option·getD, none, some}
 use mathlib.Core.Path.{ap, ap₂, refl, subst, sym, _∙_, _≡_}
 use Prim.Native.Nat.{suc, zero, ℕ, _<_, _≤_}
 use native.Mathlib.Decide.{ℕ-discrete}
 use native.Mathlib.Nat.{le-antisymm, le-of-eq, le-refl, le-trans}
 use native.Mathlib.Omega.{arith}
+use lib.Dec.{ltb}
 use lib.ListN.{List·getD-eq-default, getD, getD-replicate, length, length-replicate, replicate, set}
 use lib.Seq.{getD-set-other, getD-set-same}
 use borrow.Author.Tests.{eq-eqb, ltb-false, ltb-true, ne-eqb}
@@ -16,14 +20,40 @@ use Rattle.float.specs.declared.choose.Order.{Order}
 use Rattle.search.specs.Loops.{replicate-all}
 use Rattle.search.specs.Search.{Costs, Edge, Result, State, blank, distOf, expanded, found, leastOpen, marked, rebuild, refused, relaxed}
 use Rattle.search.specs.Search.{run, searched, settled}
-use Rattle.optimality.specs.Heap.{Ends, Entry, Frontier, Gives, Pops, Rebuilds, Runs, Taken, begun, empty, ends, first, fresh, front}
-use Rattle.optimality.specs.Heap.{isStale, later, push, pushAll, reached, stale}
+use Rattle.optimality.specs.Heap.{Ends, Entry, Frontier, Gives, Map, Pops, Rebuilds, Runs, Taken, begun, distAt, empty, ends}
+use Rattle.optimality.specs.Heap.{expandedFrom, first, fresh, front, insert, isStale, later, numbered, push, pushAll, reached, skipped}
+use Rattle.optimality.specs.Heap.{stale}
 use Rattle.optimality.specs.HeapChain.{goal-back, rebuilds-one}
 use Rattle.optimality.specs.HeapOrder.{NotBefore, Ordered, Popped, heap-pops, taken-in}
 use Rattle.optimality.specs.Invariant.{Invariant, Linking, first-invariant, open-unmarked, turn-invariant, zeros, zeros-set}
 use Rattle.optimality.specs.Laws.{Laws}
 use Rattle.optimality.specs.Least.{IsLeast, Open, least-is}
-use Rattle.optimality.specs.Relaxing.{AllCosts, Each, Expanded, LinkCosts, distances-fall, expanded-is, limit, settled-marks, sizeAt}
+use Rattle.optimality.specs.Relaxing.{AllCosts, Expanded, LinkCosts, distances-fall, limit, prevOf, relaxed-is, settled-marks, sizeAt}
+
+-- ---- numbers and rows
+-- each of the n rows has a number of its own; a number of none of them has no row below n: its lane is missing
+pub record Numbering (n : ℕ) (num rowOf : ℕ → ℕ) : Type 0 where
+  pub number : (x : ℕ) → rowOf x < n → num (rowOf x) ≡ x
+  pub row : (v : ℕ) → v < n → rowOf (num v) ≡ v
+
+-- the edges to lanes that are there, by their rows
+unfoldable pub kept : {C : Type 0} → ℕ → (ℕ → ℕ) → List (Edge C) → List (Edge C)
+kept n rowOf [] = []
+kept n rowOf (e ∷ es) =
+    cond (ltb (rowOf (e .to)) n) (record { to = rowOf (e .to); cost = e .cost } ∷ kept n rowOf es) (kept n rowOf es)
+
+-- the links `out` of rows are the edges of their numbers but for those to missing lanes, and a missing lane has no edges
+pub record Restricts {C : Type 0} (K : Costs C) (L : Laws K) (n : ℕ) (num rowOf : ℕ → ℕ) (edges out : ℕ → List (Edge C)) : Type 0 where
+  pub costs : (u : ℕ) → u < n → LinkCosts K L (edges (num u))
+  pub rows : (u : ℕ) → u < n → out u ≡ kept n rowOf (edges (num u))
+  pub missing : (x : ℕ) → n ≤ rowOf x → edges x ≡ []
+
+-- ---- maps
+insert-same : {A : Type 0} (m : Map A) (k x : ℕ) (v : A) → x ≡ k → insert m k v x ≡ some v
+insert-same m k x v e = rw (eq-eqb x k e)
+
+insert-other : {A : Type 0} (m : Map A) (k x : ℕ) (v : A) → x ≢ k → insert m k v x ≡ m x
+insert-other m k x v ne = rw (ne-eqb x k ne)
 
 -- ---- taking an entry out
 taken-cases : {C : Type 0} {e x : Entry C} {xs ys : List (Entry C)} → Taken e xs ys → List·Memᴰ x xs → (x ≡ e) ⊎ List·Memᴰ x ys
@@ -40,10 +70,25 @@ rest-shorter : {C : Type 0} {e : Entry C} {xs ys : List (Entry C)} → Taken e x
 rest-shorter first = refl
 rest-shorter (later t) = ap suc (rest-shorter t)
 
-module _ {C : Type 0} (size : C → ℕ) where
-  -- entries of one lane have different costs
+module _ {C : Type 0} (K : Costs C) (L : Laws K) (num rowOf : ℕ → ℕ) (edges out : ℕ → List (Edge C)) (size n start goal : ℕ) (few : n ≤ size)
+    (in-start : start < n) (in-goal : goal < n)
+    (N : Numbering n num rowOf) (R : Restricts K L n num rowOf edges out) (G : Linking K L out n)
+    (cmp : Entry C → Entry C → Order) (O : Ordered K L cmp) where
+  abbrev far : ℕ
+  far = limit K L
+
+  abbrev at : State C → ℕ → ℕ
+  at s v = sizeAt K L s v
+
+  abbrev IsThere : ℕ → Type 0
+  IsThere x = rowOf x < n
+
+  distinct : (a b : ℕ) → a < n → b < n → num a ≡ num b → a ≡ b
+  distinct a b la lb e = sym (N .row a la) ∙ ap rowOf e ∙ N .row b lb
+
+  -- entries of one lane that is there have different costs
   abbrev Differs : Entry C → Entry C → Type 0
-  Differs x y = x .lane ≡ y .lane → size (x .cost) ≡ size (y .cost) → ⊥
+  Differs x y = IsThere (x .lane) → x .lane ≡ y .lane → L .size (x .cost) ≡ L .size (y .cost) → ⊥
 
   abbrev Apart : List (Entry C) → Type 0
   Apart [] = Unit {0}
@@ -56,45 +101,39 @@ module _ {C : Type 0} (size : C → ℕ) where
       let r = apart-taken t (a .1) in
       let there : Differs x e = a .0 e (taken-in t) in (
         (λ y m. a .0 y (rest-in t m), r .0),
-        λ y m p q. ⊎-elim
-            (λ z. there (sym (p ∙ ap (λ (w : Entry C). w .lane) z)) (sym (q ∙ ap (λ (w : Entry C). size (w .cost)) z))) (λ m′. r .1 y m′ p q)
+        λ y m l p q. ⊎-elim
+            (λ z. let same : e .lane ≡ x .lane = p ∙ ap (λ (w : Entry C). w .lane) z in
+            there (subst IsThere same l) (sym same) (sym (q ∙ ap (λ (w : Entry C). L .size (w .cost)) z)))
+            (λ m′. r .1 y m′ l p q)
             (List·Memᴰ·cases-cons m),
       )
 
-module _ {C : Type 0} (K : Costs C) (L : Laws K) (n : ℕ) where
-  abbrev far : ℕ
-  far = limit K L
-
-  abbrev at : State C → ℕ → ℕ
-  at s v = sizeAt K L s v
-
-  abbrev frontOf : State C → List (Entry C) → Frontier C
-  frontOf s heap = front K (s .dist) (s .prev) heap
-
+  -- ---- a state of the array form and a frontier of the heap form
   abbrev entry : State C → ℕ → Entry C
-  entry s v = record { cost = distOf K s v; lane = v }
+  entry s v = record { cost = distOf K s v; lane = num v }
 
-  -- an entry is stale, or that of an open lane
-  abbrev Current : State C → Entry C → Type 0
-  Current s x = (at s (x .lane) < L .size (x .cost)) ⊎ ((x .cost ≡ distOf K s (x .lane)) × Open s (x .lane))
+  -- an entry of lane v at the cost c is stale, or that of an open lane
+  abbrev Current : State C → ℕ → C → Type 0
+  Current s v c = (at s v < L .size c) ⊎ ((c ≡ distOf K s v) × Open s v)
 
-  record Listed (s : State C) (x : Entry C) : Type 0 where
-    lane : x .lane < n
-    finite : L .size (x .cost) < far
-    current : Current s x
-    cost : L .Cost (x .cost)
+  record Listed (s : State C) (v : ℕ) (c : C) : Type 0 where
+    finite : L .size c < far
+    current : Current s v c
 
-  record Matches (s : State C) (heap : List (Entry C)) : Type 0 where
-    full : (v : ℕ) → v < n → Open s v → at s v < far → List·Memᴰ (entry s v) heap
-    each : (x : Entry C) → List·Memᴰ x heap → Listed s x
-    apart : Apart (L .size) heap
+  -- of missing lanes it is only known that their entries are costs
+  record Matches (s : State C) (f : Frontier C) : Type 0 where
+    dist : (v : ℕ) → v < n → distAt K f (num v) ≡ distOf K s v
+    prev : (v : ℕ) → v < n → at s v < far → f .prev (num v) ≡ some (num (prevOf s v))
+    full : (v : ℕ) → v < n → Open s v → at s v < far → List·Memᴰ (entry s v) (f .heap)
+    costs : (x : Entry C) → List·Memᴰ x (f .heap) → L .Cost (x .cost)
+    each : (x : Entry C) → List·Memᴰ x (f .heap) → IsThere (x .lane) → Listed s (rowOf (x .lane)) (x .cost)
+    apart : Apart (f .heap)
 
   -- no entry is below its lane's distance
-  each-least : (s : State C) (heap : List (Entry C)) → Matches s heap → (x : Entry C) → List·Memᴰ x heap
-      → at s (x .lane) ≤ L .size (x .cost)
-  each-least s heap M x m = go (M .each x m .current)
+  listed-least : (s : State C) (v : ℕ) (c : C) → Listed s v c → at s v ≤ L .size c
+  listed-least s v c l = go (l .current)
     where
-      go : Current s x → at s (x .lane) ≤ L .size (x .cost)
+      go : Current s v c → at s v ≤ L .size c
       go (inl l) = omega arith
       go (inr p) = le-of-eq (ap (L .size) (sym (p .0)))
 
@@ -102,26 +141,27 @@ module _ {C : Type 0} (K : Costs C) (L : Laws K) (n : ℕ) where
   abbrev ClosedLow : State C → ℕ → Type 0
   ClosedLow s a = (w : ℕ) → w < n → Open s w ⊎ (at s w ≤ a)
 
-  -- ---- one link
-  record Pushed (u v : ℕ) (d : C) (s : State C) (heap : List (Entry C)) : Type 0 where
-    heap′ : List (Entry C)
-    is : push K u v d (frontOf s heap) ≡ frontOf (relaxed K u v d s) heap′
-    matches : Matches (relaxed K u v d s) heap′
-
-  module _ (u v : ℕ) (d : C) (s : State C) (heap : List (Entry C)) (M : Matches s heap) (costs : AllCosts K L s)
-      (in-dist : v < length (s .dist)) (lv : v < n)
+  -- ---- one edge, to a lane that is there
+  module _ (u v : ℕ) (d : C) (s : State C) (f : Frontier C) (M : Matches s f) (costs : AllCosts K L s)
+      (in-dist : v < length (s .dist)) (in-prev : v < length (s .prev)) (lv : v < n)
       (cost : L .Cost d) (low : ClosedLow s (L .size d)) where
     abbrev t : State C
     t = record { dist = set (s .dist) v d; prev = set (s .prev) v u; closed = s .closed }
 
     abbrev new : Entry C
-    new = record { cost = d; lane = v }
+    new = record { cost = d; lane = num v }
+
+    abbrev grown : Frontier C
+    grown = front K (insert (f .dist) (num v) d) (insert (f .prev) (num v) (num u)) (new ∷ f .heap)
 
     there : distOf K t v ≡ d
     there = getD-set-same (s .dist) v d (K .infinite) in-dist
 
     elsewhere : (w : ℕ) → w ≢ v → distOf K t w ≡ distOf K s w
     elsewhere w ne = getD-set-other (s .dist) v w d (K .infinite) ne
+
+    other : (w : ℕ) → w < n → w ≢ v → num w ≢ num v
+    other w lw ne e = ne (distinct w v lw lv e)
 
     module _ (less : L .size d < at s v) where
       open-there : Open s v
@@ -130,121 +170,168 @@ module _ {C : Type 0} (K : Costs C) (L : Laws K) (n : ℕ) where
           no : (a b : ℕ) → b < a → a ≤ b → ⊥
           no a b x y = omega arith
 
-      new-listed : Listed t new
-      new-listed =
-          record { lane = lv; finite = omega (arith, less, L .most _ (costs v)); current = inr (sym there, open-there); cost = cost }
+      dist-at : (w : ℕ) → w < n → Dec (w ≡ v) → distAt K grown (num w) ≡ distOf K t w
+      dist-at w lw (yes p) =
+          ap (λ (o : Option C). Option·getD o (K .infinite)) (insert-same (f .dist) (num v) (num w) d (ap num p))
+          ∙ sym there ∙ ap (distOf K t) (sym p)
+      dist-at w lw (no ne) =
+          ap (λ (o : Option C). Option·getD o (K .infinite)) (insert-other (f .dist) (num v) (num w) d (other w lw ne))
+          ∙ M .dist w lw ∙ sym (elsewhere w ne)
 
-      full-at : (w : ℕ) → w < n → Open s w → at t w < far → Dec (w ≡ v) → List·Memᴰ (entry t w) (new ∷ heap)
-      full-at w lw o r (yes p) = List·Memᴰ·head (λ i. record { cost = (ap (distOf K t) p ∙ there) i; lane = p i })
+      prev-at : (w : ℕ) → w < n → at t w < far → Dec (w ≡ v) → grown .prev (num w) ≡ some (num (prevOf t w))
+      prev-at w lw r (yes p) =
+          insert-same (f .prev) (num v) (num w) (num u) (ap num p)
+          ∙ ap (λ (x : ℕ). some (num x)) (sym (getD-set-same (s .prev) v u 0 in-prev) ∙ ap (prevOf t) (sym p))
+      prev-at w lw r (no ne) =
+          insert-other (f .prev) (num v) (num w) (num u) (other w lw ne)
+          ∙ M .prev w lw (subst (λ (a : C). L .size a < far) (elsewhere w ne) r)
+          ∙ ap (λ (x : ℕ). some (num x)) (sym (getD-set-other (s .prev) v w u 0 ne))
+
+      full-at : (w : ℕ) → w < n → Open s w → at t w < far → Dec (w ≡ v) → List·Memᴰ (entry t w) (new ∷ f .heap)
+      full-at w lw o r (yes p) = List·Memᴰ·head (λ i. record { cost = (ap (distOf K t) p ∙ there) i; lane = num (p i) })
       full-at w lw o r (no ne) =
-          List·Memᴰ·tail (subst (λ (a : C). List·Memᴰ (record { cost = a; lane = w }) heap) (sym (elsewhere w ne))
+          List·Memᴰ·tail (subst (λ (a : C). List·Memᴰ (record { cost = a; lane = num w }) (f .heap)) (sym (elsewhere w ne))
           (M .full w lw o (subst (λ (a : C). L .size a < far) (elsewhere w ne) r)))
 
-      current-at : (x : Entry C) → List·Memᴰ x heap → Current s x → Dec (x .lane ≡ v) → Current t x
-      current-at x m e (yes p) =
-          inl (below (at t (x .lane)) (L .size d) (at s v) (L .size (x .cost)) (ap (at t) p ∙ ap (L .size) there) less known)
+      new-listed : Listed t v d
+      new-listed = record { finite = omega (arith, less, L .most _ (costs v)); current = inr (sym there, open-there) }
+
+      current-at : (w : ℕ) (c : C) → Listed s w c → Current s w c → Dec (w ≡ v) → Current t w c
+      current-at w c l e (yes p) =
+          inl (below (at t w) (L .size d) (at s v) (L .size c) (ap (at t) p ∙ ap (L .size) there) less known)
         where
-          known : at s v ≤ L .size (x .cost)
-          known = subst (λ (y : ℕ). at s y ≤ L .size (x .cost)) p (each-least s heap M x m)
+          known : at s v ≤ L .size c
+          known = subst (λ (y : ℕ). at s y ≤ L .size c) p (listed-least s w c l)
 
           below : (a b c e : ℕ) → a ≡ b → b < c → c ≤ e → a < e
           below a b c e p q r = omega arith
-      current-at x m (inl l) (no ne) = inl (subst (λ (a : C). L .size a < L .size (x .cost)) (sym (elsewhere (x .lane) ne)) l)
-      current-at x m (inr q) (no ne) = inr (q .0 ∙ sym (elsewhere (x .lane) ne), q .1)
+      current-at w c l (inl e) (no ne) = inl (subst (λ (a : C). L .size a < L .size c) (sym (elsewhere w ne)) e)
+      current-at w c l (inr q) (no ne) = inr (q .0 ∙ sym (elsewhere w ne), q .1)
 
-      listed-at : (x : Entry C) → List·Memᴰ x heap → Listed t x
-      listed-at x m =
-          let e = M .each x m in
-          record { lane = e .lane; finite = e .finite; current = current-at x m (e .current) (ℕ-discrete (x .lane) v); cost = e .cost }
+      listed-at : (w : ℕ) (c : C) → Listed s w c → Listed t w c
+      listed-at w c l = record { finite = l .finite; current = current-at w c l (l .current) (ℕ-discrete w v) }
 
-      new-apart : (y : Entry C) → List·Memᴰ y heap → Differs (L .size) new y
-      new-apart y m p q =
+      new-apart : (y : Entry C) → List·Memᴰ y (f .heap) → Differs new y
+      new-apart y m l p q =
           no (L .size d) (at s v) (L .size (y .cost)) less
-          (subst (λ (w : ℕ). at s w ≤ L .size (y .cost)) (sym p) (each-least s heap M y m)) q
+          (subst (λ (w : ℕ). at s w ≤ L .size (y .cost)) (ap rowOf (sym p) ∙ N .row v lv)
+          (listed-least s (rowOf (y .lane)) (y .cost) (M .each y m (subst IsThere p l)))) q
         where
           no : (a b c : ℕ) → a < b → b ≤ c → a ≡ c → ⊥
           no a b c x y z = omega arith
 
-      pushed-matches : Matches t (new ∷ heap)
-      pushed-matches =
+      each-at : (x : Entry C) → (x ≡ new) ⊎ List·Memᴰ x (f .heap) → IsThere (x .lane) → Listed t (rowOf (x .lane)) (x .cost)
+      each-at x (inl p) l =
+          subst (λ (y : Entry C). Listed t (rowOf (y .lane)) (y .cost)) (sym p)
+          (subst (λ (w : ℕ). Listed t w d) (sym (N .row v lv)) new-listed)
+      each-at x (inr m) l = listed-at (rowOf (x .lane)) (x .cost) (M .each x m l)
+
+      grown-matches : Matches t grown
+      grown-matches =
           record {
+            dist = λ w lw. dist-at w lw (ℕ-discrete w v);
+            prev = λ w lw r. prev-at w lw r (ℕ-discrete w v);
             full = λ w lw o r. full-at w lw o r (ℕ-discrete w v);
-            each = λ x m. ⊎-elim (λ p. subst (Listed t) (sym p) new-listed) (λ m′. listed-at x m′) (List·Memᴰ·cases-cons m);
+            costs = λ x m. ⊎-elim (λ p. subst (λ (y : Entry C). L .Cost (y .cost)) (sym p) cost) (M .costs x) (List·Memᴰ·cases-cons m);
+            each = λ x m. each-at x (List·Memᴰ·cases-cons m);
             apart = (new-apart, M .apart);
           }
 
-    push-one : Pushed u v d s heap
+    push-there : Matches (relaxed K u v d s) (push K (num u) (num v) d f)
     unfolding push relaxed
-    push-one = go (K .lt d (distOf K s v)) refl
+    push-there = rw (M .dist v lv) (go (K .lt d (distOf K s v)) refl)
       where
-        go : (b : Bool) → K .lt d (distOf K s v) ≡ b → Pushed u v d s heap
-        go true b =
-            record {
-              heap′ = new ∷ heap;
-              is = rw b;
-              matches = rw b
-                  (pushed-matches (ltb-true _ _ (sym (L .lt-size d (distOf K s v) cost (costs v)) ∙ b)));
-            }
-        go false b = record { heap′ = heap; is = rw b; matches = rw b M }
+        go : (b : Bool) → K .lt d (distOf K s v) ≡ b → Matches (cond b t s) (cond b grown f)
+        go true b = grown-matches (ltb-true _ _ (sym (L .lt-size d (distOf K s v) cost (costs v)) ∙ b))
+        go false b = M
 
-  -- ---- a list of links
-  record AllPushed (u : ℕ) (c : C) (es : List (Edge C)) (s : State C) (heap : List (Entry C)) : Type 0 where
-    heap′ : List (Entry C)
-    is : pushAll K u c es (frontOf s heap) ≡ frontOf (expanded K u c es s) heap′
-    matches : Matches (expanded K u c es s) heap′
-
-  push-all : (size : ℕ) → n ≤ size → (es : List (Edge C)) (u : ℕ) (c : C) (s : State C) (heap : List (Entry C)) → Matches s heap
-      → L .Cost c → LinkCosts K L es
-      → Each es (λ e. e .to < n) → AllCosts K L s → length (s .dist) ≡ size → length (s .prev) ≡ size → ClosedLow s (L .size c)
-      → AllPushed u c es s heap
-  unfolding pushAll expanded
-  push-all size few [] u c s heap M cost links inside costs ld lp low = record { heap′ = heap; is = refl; matches = M }
-  push-all size few (e ∷ es) u c s heap M cost links inside costs ld lp low =
-      join (push-all size few es u c t (P .heap′) (P .matches) cost (λ x m. links x (List·Memᴰ·tail m))
-      (λ x m. inside x (List·Memᴰ·tail m)) (R .costs)
-      (R .dist-length ∙ ld) (R .prev-length ∙ lp) low′)
+  -- ---- one edge, to a missing lane: nothing is changed for those that are there
+  push-missing : (u x : ℕ) (d : C) (s : State C) (f : Frontier C) → Matches s f → n ≤ rowOf x → L .Cost d → Matches s (push K u x d f)
+  unfolding push
+  push-missing u x d s f M lx cost = go (K .lt d (distAt K f x))
     where
+      new : Entry C
+      new = record { cost = d; lane = x }
+
+      other : (w : ℕ) → w < n → num w ≢ x
+      other w lw e = omega (arith, N .row w lw, ap rowOf e)
+
+      gone : IsThere x → ⊥
+      gone l = omega arith
+
+      go : (b : Bool) → Matches s (cond b (front K (insert (f .dist) x d) (insert (f .prev) x u) (record { cost = d; lane = x } ∷ f .heap)) f)
+      go true =
+          record {
+            dist = λ w lw. ap (λ (o : Option C). Option·getD o (K .infinite)) (insert-other (f .dist) x (num w) d (other w lw)) ∙ M .dist w lw;
+            prev = λ w lw r. insert-other (f .prev) x (num w) u (other w lw) ∙ M .prev w lw r;
+            full = λ w lw o r. List·Memᴰ·tail (M .full w lw o r);
+            costs = λ y m. ⊎-elim (λ p. subst (λ (z : Entry C). L .Cost (z .cost)) (sym p) cost) (M .costs y) (List·Memᴰ·cases-cons m);
+            each =
+                λ y m l. ⊎-elim (λ p. absurd (gone (subst (λ (z : Entry C). IsThere (z .lane)) p l))) (λ m′. M .each y m′ l)
+                (List·Memᴰ·cases-cons m);
+            apart = (λ y m l. absurd (gone l), M .apart);
+          }
+      go false = M
+
+  -- ---- a list of edges
+  push-all : (es : List (Edge C)) (u : ℕ) (c : C) (s : State C) (f : Frontier C) → Matches s f → L .Cost c → LinkCosts K L es
+      → AllCosts K L s → length (s .dist) ≡ size → length (s .prev) ≡ size → ClosedLow s (L .size c)
+      → Matches (expanded K u c (kept n rowOf es) s) (pushAll K (num u) c es f)
+  unfolding pushAll expanded kept
+  push-all [] u c s f M cost links costs ld lp low = M
+  push-all (e ∷ es) u c s f M cost links costs ld lp low =
+      go (ltb v n) refl (λ s′ f′ M′. push-all es u c s′ f′ M′ cost (λ x m. links x (List·Memᴰ·tail m)))
+    where
+      v : ℕ
+      v = rowOf (e .to)
+
       d : C
       d = K .add c (e .cost)
 
       link : L .LinkCost (e .cost)
       link = links e (List·Memᴰ·head refl)
 
-      into : e .to < n
-      into = inside e (List·Memᴰ·head refl)
+      d-cost : L .Cost d
+      d-cost = L .add-cost c (e .cost) cost link
+
+      Rest : State C → Frontier C → Type 0
+      Rest s′ f′ = Matches (expanded K u c (kept n rowOf es) s′) (pushAll K (num u) c es f′)
 
       t : State C
-      t = relaxed K u (e .to) d s
+      t = relaxed K u v d s
 
-      one : (x : Edge C) → List·Memᴰ x (e ∷ []) → x ≡ e
-      one x m = ⊎-elim (λ p. p) (λ q. absurd (List·Memᴰ·not-nil q)) (List·Memᴰ·cases-cons m)
+      low-there : ClosedLow s (L .size d)
+      low-there w lw = ⊎-elim (λ o. inl o) (λ l. inr (le-trans l (L .add-grows c (e .cost) cost link))) (low w lw)
 
-      R : Expanded K L u c (e ∷ []) s t
-      R =
-          expanded-is K L (e ∷ []) u size c s cost (λ x m. subst (λ (y : Edge C). L .LinkCost (y .cost)) (sym (one x m)) link) costs
-          (λ x m. subst (λ (y : Edge C). y .to < size) (sym (one x m)) (omega (arith, into))) ld lp
+      go : (b : Bool) → ltb v n ≡ b
+          → ((s′ : State C) (f′ : Frontier C) → Matches s′ f′ → AllCosts K L s′ → length (s′ .dist) ≡ size → length (s′ .prev) ≡ size
+          → ClosedLow s′ (L .size c) → Rest s′ f′)
+          → Matches (expanded K u c (cond b (record { to = v; cost = e .cost } ∷ kept n rowOf es) (kept n rowOf es)) s)
+          (pushAll K (num u) c es (push K (num u) (e .to) d f))
+      go true b more = more t (push K (num u) (e .to) d f) pushed (E .costs) (E .dist-length ∙ ld) (E .prev-length ∙ lp) low′
+        where
+          lv : v < n
+          lv = ltb-true v n b
 
-      P : Pushed u (e .to) d s heap
-      P =
-          push-one u (e .to) d s heap M costs (omega (arith, into, ld)) into (L .add-cost c (e .cost) cost link)
-          (λ w lw. ⊎-elim (λ o. inl o) (λ l. inr (le-trans l (L .add-grows c (e .cost) cost link))) (low w lw))
+          edge : Edge C
+          edge = record { to = v; cost = e .cost }
 
-      low′ : ClosedLow t (L .size c)
-      low′ w lw =
-          ⊎-elim (λ o. inl (subst (λ (m : List ℕ). getD m w 1 ≡ 0) (sym (R .same-marks)) o))
-          (λ l. inr (le-trans (distances-fall K L u c (e ∷ []) s t R w) l)) (low w lw)
+          E : Expanded K L u c (edge ∷ []) s t
+          E = relaxed-is K L u c edge s cost link costs (omega (arith, lv, ld)) (omega (arith, lv, lp))
 
-      join : AllPushed u c es t (P .heap′) → AllPushed u c (e ∷ es) s heap
-      join Q = record { heap′ = Q .heap′; is = ap (pushAll K u c es) (P .is) ∙ Q .is; matches = Q .matches }
+          pushed : Matches t (push K (num u) (e .to) d f)
+          pushed =
+              subst (λ (x : ℕ). Matches t (push K (num u) x d f)) (N .number (e .to) lv)
+              (push-there u v d s f M costs (omega (arith, lv, ld)) (omega (arith, lv, lp)) lv d-cost low-there)
 
--- ---- the loop
-module _ {C : Type 0} (K : Costs C) (L : Laws K) (num : ℕ → ℕ) (out : ℕ → List (Edge C)) (size n start goal : ℕ) (few : n ≤ size)
-    (in-start : start < n)
-    (G : Linking K L out n) (distinct : (a b : ℕ) → a < n → b < n → num a ≡ num b → a ≡ b)
-    (cmp : Entry C → Entry C → Order) (O : Ordered K L num cmp) where
-  abbrev Fits : State C → List (Entry C) → Type 0
-  Fits s heap = Matches K L n s heap
+          low′ : ClosedLow t (L .size c)
+          low′ w lw =
+              ⊎-elim (λ o. inl (subst (λ (m : List ℕ). getD m w 1 ≡ 0) (sym (E .same-marks)) o))
+              (λ l. inr (le-trans (distances-fall K L u c (edge ∷ []) s t E w) l)) (low w lw)
+      go false b more =
+          more s (push K (num u) (e .to) d f) (push-missing (num u) (e .to) d s f M (ltb-false v n b) d-cost) costs ld lp low
 
+  -- ---- the loop
   abbrev Inv : State C → List ℕ → Type 0
   Inv s order = Invariant K L out size n start goal s order
 
@@ -252,188 +339,250 @@ module _ {C : Type 0} (K : Costs C) (L : Laws K) (num : ℕ → ℕ) (out : ℕ 
   leastNow s = leastOpen K num size s n
 
   abbrev Is : State C → Type 0
-  Is s = (leastNow s ≡ size) ⊎ ((leastNow s < n) × Open s (leastNow s) × (at K L n s (leastNow s) < far K L n))
+  Is s = (leastNow s ≡ size) ⊎ ((leastNow s < n) × Open s (leastNow s) × (at s (leastNow s) < far))
 
-  module _ (s : State C) (heap : List (Entry C)) (order : List ℕ) (I : Inv s order) (M : Fits s heap) where
+  abbrev grownFrom : Frontier C → Entry C → List (Entry C) → Frontier C
+  grownFrom f e rest = expandedFrom K cmp edges (num start) (num goal) f e rest
+
+  module _ (s : State C) (f : Frontier C) (order : List ℕ) (I : Inv s order) (M : Matches s f) where
     least : IsLeast K L num size s n (leastNow s)
     least = least-is K L num size s (I .costs) n
 
     -- nothing in the heap: no lane is open
-    none-open : heap ≡ [] → leastNow s ≡ size
+    none-open : f .heap ≡ [] → leastNow s ≡ size
     none-open p = go (least .is)
       where
         go : Is s → leastNow s ≡ size
         go (inl e) = e
         go (inr q) =
             let m = M .full (leastNow s) (q .0) (q .1) (q .2) in
-            absurd (List·Memᴰ·not-nil (subst (λ (h : List (Entry C)). List·Memᴰ (entry K L n s (leastNow s)) h) p m))
+            absurd (List·Memᴰ·not-nil (subst (λ (h : List (Entry C)). List·Memᴰ (entry s (leastNow s)) h) p m))
 
-    module _ (e : Entry C) (rest : List (Entry C)) (P : Pops cmp heap e rest) where
-      inn : List·Memᴰ e heap
+    module _ (e : Entry C) (rest : List (Entry C)) (P : Pops cmp (f .heap) e rest) where
+      inn : List·Memᴰ e (f .heap)
       inn = taken-in (P .taken)
 
+      cost : L .Cost (e .cost)
+      cost = M .costs e inn
+
       abbrev u : ℕ
-      u = e .lane
+      u = rowOf (e .lane)
 
-      here : Listed K L n s e
-      here = M .each e inn
+      not-before : (x : Entry C) → List·Memᴰ x (f .heap) → NotBefore K L x e
+      not-before x m = O .not-before x e (M .costs x m) cost (P .greatest x m)
 
-      not-before : (x : Entry C) → List·Memᴰ x heap → NotBefore K L num x e
-      not-before x m = O .not-before x e (M .each x m .cost) (here .cost) (P .greatest x m)
-
-      -- an entry that is not stale is the least open lane's
-      popped : e .cost ≡ distOf K s u → Open s u → leastNow s ≡ u
-      popped ce o = go (least .is)
-        where
-          ke : L .size (e .cost) ≡ at K L n s u
-          ke = ap (L .size) ce
-
-          ru : at K L n s u < far K L n
-          ru = subst (λ (k : ℕ). k < far K L n) ke (here .finite)
-
-          go : Is s → leastNow s ≡ u
-          go (inl p) = absurd (no (at K L n s (leastNow s)) (at K L n s u) (far K L n) unreached (least .all u (here .lane) o) ru)
-            where
-              unreached : at K L n s (leastNow s) ≡ far K L n
-              unreached = ap (L .size) (List·getD-eq-default (s .dist) (K .infinite) (omega (arith, I .dist-length)))
-
-              no : (a b c : ℕ) → a ≡ c → a ≤ b → b < c → ⊥
-              no a b c x y z = omega arith
-          go (inr q) =
-              let b = leastNow s in
-              let mb = M .full b (q .0) (q .1) (q .2) in
-              let same : L .size (e .cost) ≡ at K L n s b =
-              le-antisymm (not-before (entry K L n s b) mb .0) (le-trans (least .all u (here .lane) o) (le-of-eq (sym ke))) in
-              distinct b u (q .0) (here .lane)
-              (le-antisymm (not-before (entry K L n s b) mb .1 same) (least .largest u (here .lane) o ru (sym same ∙ ke)))
-
-      -- the goal's entry is not stale
-      goal-current : u ≡ goal → (e .cost ≡ distOf K s u) × Open s u
-      goal-current g = go (here .current)
-        where
-          open-goal : Open s u
-          open-goal = ⊎-elim (λ o. o) (λ m. absurd (I .goal-open (subst (λ (x : ℕ). List·Memᴰ x order) g m))) (I .cover u (here .lane))
-
-          go : Current K L n s e → (e .cost ≡ distOf K s u) × Open s u
-          go (inl l) =
-              let r : at K L n s u < far K L n = less (at K L n s u) (L .size (e .cost)) (far K L n) l (here .finite) in
-              absurd (no (at K L n s u) (L .size (e .cost)) l (not-before (entry K L n s u) (M .full u (here .lane) open-goal r) .0))
-            where
-              less : (a b c : ℕ) → a < b → b < c → a < c
-              less a b c x y = omega arith
-
-              no : (a b : ℕ) → a < b → b ≤ a → ⊥
-              no a b x y = omega arith
-          go (inr q) = q
-
-      -- and its chain is rebuilt
-      popped-back : u ≡ goal → Rebuilds K (frontOf K L n s heap) start goal (goal ∷ []) (rebuild size (s .prev) start goal (goal ∷ []))
-      popped-back g =
-          let q = goal-current g in
-          goal-back K L out size n start goal s order I heap (subst (Open s) g (q .1))
-          (subst (λ (x : ℕ). at K L n s x < far K L n) g (subst (λ (c : C). L .size c < far K L n) (q .0) (here .finite)))
-
-      is-stale : K .lt (distOf K s u) (e .cost) ≡ true → at K L n s u < L .size (e .cost)
-      is-stale t = ltb-true _ _ (sym (L .lt-size (distOf K s u) (e .cost) (I .costs u) (here .cost)) ∙ t)
-
-      is-current : K .lt (distOf K s u) (e .cost) ≡ false → (e .cost ≡ distOf K s u) × Open s u
-      is-current t = go (here .current)
-        where
-          go : Current K L n s e → (e .cost ≡ distOf K s u) × Open s u
-          go (inl g) =
-              absurd (no (L .size (e .cost)) (at K L n s u)
-              (ltb-false _ _ (sym (L .lt-size (distOf K s u) (e .cost) (I .costs u) (here .cost)) ∙ t)) g)
-            where
-              no : (a b : ℕ) → a ≤ b → b < a → ⊥
-              no a b x y = omega arith
-          go (inr q) = q
-
-      -- a stale entry goes
-      dropped : at K L n s u < L .size (e .cost) → Fits s rest
+      -- an entry that is stale, or whose lane is missing, goes
+      dropped : (IsThere (e .lane) → at s u < L .size (e .cost)) → Matches s (skipped K f rest)
       dropped l =
           record {
-            full = λ v lv o r. ⊎-elim (λ p. absurd (no v p)) (λ m. m) (taken-cases (P .taken) (M .full v lv o r));
+            dist = M .dist;
+            prev = M .prev;
+            full = λ v lv o r. ⊎-elim (λ p. absurd (no v lv p)) (λ m. m) (taken-cases (P .taken) (M .full v lv o r));
+            costs = λ x m. M .costs x (rest-in (P .taken) m);
             each = λ x m. M .each x (rest-in (P .taken) m);
-            apart = apart-taken (L .size) (P .taken) (M .apart) .0;
+            apart = apart-taken (P .taken) (M .apart) .0;
           }
         where
-          no : (v : ℕ) → entry K L n s v ≡ e → ⊥
-          no v p =
-              clash (at K L n s u) (L .size (e .cost)) l
-              (ap (λ (x : Entry C). L .size (x .cost)) (sym p) ∙ ap (λ (x : Entry C). at K L n s (x .lane)) p)
+          no : (v : ℕ) → v < n → entry s v ≡ e → ⊥
+          no v lv p =
+              clash (at s u) (L .size (e .cost)) (l (subst (λ (w : ℕ). w < n) (sym row) lv))
+              (ap (λ (x : Entry C). L .size (x .cost)) (sym p) ∙ ap (at s) (sym row))
             where
+              row : u ≡ v
+              row = ap (λ (x : Entry C). rowOf (x .lane)) (sym p) ∙ N .row v lv
+
               clash : (a b : ℕ) → a < b → b ≡ a → ⊥
               clash a b x y = omega arith
 
-      -- a closed lane goes with its entry
-      closed : e .cost ≡ distOf K s u → Fits (marked K u s) rest
-      unfolding marked
-      closed ce =
-          record {
-            full = λ v lv o r. full-at v lv (open-unmarked (s .closed) u v o) r;
-            each = λ x m. let q = M .each x (rest-in (P .taken) m) in
-                record {
-                  lane = q .lane;
-                  finite = q .finite;
-                  current = current-at x m (q .current) (ℕ-discrete (x .lane) u);
-                  cost = q .cost;
-                };
-            apart = apart-taken (L .size) (P .taken) (M .apart) .0;
-          }
-        where
-          full-at : (v : ℕ) → v < n → Open s v × (v ≢ u) → at K L n s v < far K L n → List·Memᴰ (entry K L n s v) rest
-          full-at v lv o r =
-              ⊎-elim (λ p. absurd (o .1 (ap (λ (x : Entry C). x .lane) p))) (λ m. m) (taken-cases (P .taken) (M .full v lv (o .0) r))
+      -- ---- an entry of a lane that is there
+      module _ (lu : u < n) where
+        number : num u ≡ e .lane
+        number = N .number (e .lane) lu
 
-          current-at : (x : Entry C) → List·Memᴰ x rest → Current K L n s x → Dec (x .lane ≡ u)
-              → (at K L n s (x .lane) < L .size (x .cost)) ⊎ ((x .cost ≡ distOf K s (x .lane)) × (getD (set (s .closed) u 1) (x .lane)
-              1 ≡ 0))
-          current-at x m (inl l) d = inl l
-          current-at x m (inr q) (yes p) =
-              absurd (apart-taken (L .size) (P .taken) (M .apart) .1 x m (sym p) (ap (L .size) (ce ∙ ap (distOf K s) (sym p) ∙ sym (q .0))))
-          current-at x m (inr q) (no ne) = inr (q .0, getD-set-other (s .closed) u (x .lane) 1 1 ne ∙ q .1)
+        here : Listed s u (e .cost)
+        here = M .each e inn lu
 
-      closed-low : e .cost ≡ distOf K s u → Open s u → ClosedLow K L n (marked K u s) (L .size (e .cost))
-      unfolding marked
-      closed-low ce o w lw = go (ℕ-discrete w u) (I .cover w lw)
-        where
-          go : Dec (w ≡ u) → Open s w ⊎ List·Memᴰ w order → (getD (set (s .closed) u 1) w 1 ≡ 0) ⊎ (at K L n s w ≤ L .size (e .cost))
-          go (yes p) c = inr (le-of-eq (ap (at K L n s) p ∙ ap (L .size) (sym ce)))
-          go (no ne) (inl a) = inl (getD-set-other (s .closed) u w 1 1 ne ∙ a)
-          go (no ne) (inr m) = inr (le-trans (I .sorted w u m (here .lane) o) (le-of-eq (ap (L .size) (sym ce))))
+        dist-here : distAt K f (e .lane) ≡ distOf K s u
+        dist-here = subst (λ (x : ℕ). distAt K f x ≡ distOf K s u) number (M .dist u lu)
 
-      -- an entry that is not stale: its lane is closed in both forms
+        -- one that is not stale is the least open lane's
+        popped : e .cost ≡ distOf K s u → Open s u → leastNow s ≡ u
+        popped ce o = go (least .is)
+          where
+            ke : L .size (e .cost) ≡ at s u
+            ke = ap (L .size) ce
+
+            ru : at s u < far
+            ru = subst (λ (k : ℕ). k < far) ke (here .finite)
+
+            go : Is s → leastNow s ≡ u
+            go (inl p) = absurd (no (at s (leastNow s)) (at s u) far unreached (least .all u lu o) ru)
+              where
+                unreached : at s (leastNow s) ≡ far
+                unreached = ap (L .size) (List·getD-eq-default (s .dist) (K .infinite) (omega (arith, I .dist-length)))
+
+                no : (a b c : ℕ) → a ≡ c → a ≤ b → b < c → ⊥
+                no a b c x y z = omega arith
+            go (inr q) =
+                let b = leastNow s in
+                let mb = M .full b (q .0) (q .1) (q .2) in
+                let same : L .size (e .cost) ≡ at s b =
+                le-antisymm (not-before (entry s b) mb .0) (le-trans (least .all u lu o) (le-of-eq (sym ke))) in
+                distinct b u (q .0) lu
+                (le-antisymm (subst (λ (x : ℕ). num b ≤ x) (sym number) (not-before (entry s b) mb .1 same))
+                (least .largest u lu o ru (sym same ∙ ke)))
+
+        -- the goal's entry is not stale
+        goal-current : u ≡ goal → (e .cost ≡ distOf K s u) × Open s u
+        goal-current g = go (here .current)
+          where
+            open-goal : Open s u
+            open-goal = ⊎-elim (λ o. o) (λ m. absurd (I .goal-open (subst (λ (x : ℕ). List·Memᴰ x order) g m))) (I .cover u lu)
+
+            go : Current s u (e .cost) → (e .cost ≡ distOf K s u) × Open s u
+            go (inl l) =
+                let r : at s u < far = less (at s u) (L .size (e .cost)) far l (here .finite) in
+                absurd (no (at s u) (L .size (e .cost)) l (not-before (entry s u) (M .full u lu open-goal r) .0))
+              where
+                less : (a b c : ℕ) → a < b → b < c → a < c
+                less a b c x y = omega arith
+
+                no : (a b : ℕ) → a < b → b ≤ a → ⊥
+                no a b x y = omega arith
+            go (inr q) = q
+
+        -- and its chain is rebuilt
+        popped-back : u ≡ goal
+            → Rebuilds f (num start) (num goal) (num goal ∷ []) (map num (rebuild size (s .prev) start goal (goal ∷ [])))
+        popped-back g =
+            let q = goal-current g in
+            goal-back K L num out size n start goal in-start in-goal distinct s order I f (M .prev) (subst (Open s) g (q .1))
+            (subst (λ (x : ℕ). at s x < far) g (subst (λ (c : C). L .size c < far) (q .0) (here .finite)))
+
+        is-stale : isStale K f e ≡ true → at s u < L .size (e .cost)
+        is-stale t =
+            ltb-true _ _ (sym (L .lt-size (distOf K s u) (e .cost) (I .costs u) cost)
+            ∙ ap (λ (c : C). K .lt c (e .cost)) (sym dist-here) ∙ t)
+
+        is-current : isStale K f e ≡ false → (e .cost ≡ distOf K s u) × Open s u
+        is-current t = go (here .current)
+          where
+            go : Current s u (e .cost) → (e .cost ≡ distOf K s u) × Open s u
+            go (inl g) =
+                absurd (no (L .size (e .cost)) (at s u)
+                (ltb-false _ _ (sym (L .lt-size (distOf K s u) (e .cost) (I .costs u) cost)
+                ∙ ap (λ (c : C). K .lt c (e .cost)) (sym dist-here) ∙ t)) g)
+              where
+                no : (a b : ℕ) → a ≤ b → b < a → ⊥
+                no a b x y = omega arith
+            go (inr q) = q
+
+        -- a closed lane goes with its entry
+        closed : e .cost ≡ distOf K s u → Matches (marked K u s) (skipped K f rest)
+        unfolding marked
+        closed ce =
+            record {
+              dist = M .dist;
+              prev = M .prev;
+              full = λ v lv o r. full-at v lv (open-unmarked (s .closed) u v o) r;
+              costs = λ x m. M .costs x (rest-in (P .taken) m);
+              each = λ x m l. let q = M .each x (rest-in (P .taken) m) l in
+                  record { finite = q .finite; current = current-at x m l (q .current) (ℕ-discrete (rowOf (x .lane)) u) };
+              apart = apart-taken (P .taken) (M .apart) .0;
+            }
+          where
+            full-at : (v : ℕ) → v < n → Open s v × (v ≢ u) → at s v < far → List·Memᴰ (entry s v) rest
+            full-at v lv o r =
+                ⊎-elim (λ p. absurd (o .1 (sym (N .row v lv) ∙ ap (λ (x : Entry C). rowOf (x .lane)) p))) (λ m. m)
+                (taken-cases (P .taken) (M .full v lv (o .0) r))
+
+            current-at : (x : Entry C) → List·Memᴰ x rest → IsThere (x .lane) → Current s (rowOf (x .lane)) (x .cost)
+                → Dec (rowOf (x .lane) ≡ u)
+                → (at s (rowOf (x .lane)) < L .size (x .cost)) ⊎ ((x .cost ≡ distOf K s (rowOf (x .lane)))
+                × (getD (set (s .closed) u 1) (rowOf (x .lane)) 1 ≡ 0))
+            current-at x m l (inl g) d = inl g
+            current-at x m l (inr q) (yes p) =
+                absurd (apart-taken (P .taken) (M .apart) .1 x m lu (sym number ∙ ap num (sym p) ∙ N .number (x .lane) l)
+                (ap (L .size) (ce ∙ ap (distOf K s) (sym p) ∙ sym (q .0))))
+            current-at x m l (inr q) (no ne) = inr (q .0, getD-set-other (s .closed) u (rowOf (x .lane)) 1 1 ne ∙ q .1)
+
+        closed-low : e .cost ≡ distOf K s u → Open s u → ClosedLow (marked K u s) (L .size (e .cost))
+        unfolding marked
+        closed-low ce o w lw = go (ℕ-discrete w u) (I .cover w lw)
+          where
+            go : Dec (w ≡ u) → Open s w ⊎ List·Memᴰ w order → (getD (set (s .closed) u 1) w 1 ≡ 0) ⊎ (at s w ≤ L .size (e .cost))
+            go (yes p) c = inr (le-of-eq (ap (at s) p ∙ ap (L .size) (sym ce)))
+            go (no ne) (inl a) = inl (getD-set-other (s .closed) u w 1 1 ne ∙ a)
+            go (no ne) (inr m) = inr (le-trans (I .sorted w u m lu o) (le-of-eq (ap (L .size) (sym ce))))
+
+      -- ---- what a turn does
+      -- a lane that is there and whose entry is not stale is closed in both forms
       record Closed : Type 0 where
-        heap′ : List (Entry C)
-        is : pushAll K u (e .cost) (out u) (front K (s .dist) (s .prev) rest) ≡ frontOf K L n (settled K out u s) heap′
-        matches : Fits (settled K out u s) heap′
+        lane : u < n
+        matches : Matches (settled K out u s) (grownFrom f e rest)
         invariant : Inv (settled K out u s) (u ∷ order)
         was-open : Open s u
         was-least : leastNow s ≡ u
+        no-goal : u ≢ goal
 
-      close : u ≢ goal → K .lt (distOf K s u) (e .cost) ≡ false → Closed
+      -- a missing lane goes
+      record Gone : Type 0 where
+        is : grownFrom f e rest ≡ skipped K f rest
+        matches : Matches s (skipped K f rest)
+
+      close : (lu : u < n) → e .lane ≢ num goal → isStale K f e ≡ false → Closed
       unfolding settled marked
-      close ng t =
-          let q = is-current t in
-          let l = popped (q .0) (q .1) in
+      close lu ne t =
+          let q = is-current lu t in
+          let l = popped lu (q .0) (q .1) in
           let A =
-          push-all K L n size few (out u) u (e .cost) (marked K u s) rest (closed (q .0)) (here .cost) (G .costs u (here .lane))
-          (G .inside u (here .lane)) (I .costs)
-          (I .dist-length) (I .prev-length) (closed-low (q .0) (q .1)) in
-          let same : expanded K u (e .cost) (out u) (marked K u s) ≡ settled K out u s =
-          ap (λ (x : C). expanded K u x (out u) (marked K u s)) (q .0) in
-          let low : (v : ℕ) → v < n → Open s v → at K L n s u ≤ at K L n s v =
-          subst (λ (x : ℕ). (v : ℕ) → v < n → Open s v → at K L n s x ≤ at K L n s v) l (least .all) in
+          push-all (edges (num u)) u (e .cost) (marked K u s) (skipped K f rest) (closed lu (q .0)) cost (R .costs u lu) (I .costs)
+          (I .dist-length) (I .prev-length) (closed-low lu (q .0) (q .1)) in
+          let same : expanded K u (e .cost) (kept n rowOf (edges (num u))) (marked K u s) ≡ settled K out u s =
+          ap₂ (λ (x : C) (es : List (Edge C)). expanded K u x es (marked K u s)) (q .0) (sym (R .rows u lu)) in
+          let low : (v : ℕ) → v < n → Open s v → at s u ≤ at s v =
+          subst (λ (x : ℕ). (v : ℕ) → v < n → Open s v → at s x ≤ at s v) l (least .all) in
+          let ng : u ≢ goal = λ g. ne (sym (number lu) ∙ ap num g) in
           record {
-            heap′ = A .heap′;
-            is = A .is ∙ ap (λ (x : State C). frontOf K L n x (A .heap′)) same;
-            matches = subst (λ (x : State C). Fits x (A .heap′)) same (A .matches);
+            lane = lu;
+            matches =
+                subst (λ (x : ℕ). Matches (settled K out u s) (pushAll K x (e .cost) (edges x) (skipped K f rest))) (number lu)
+                (subst (λ (x : State C). Matches x (pushAll K (num u) (e .cost) (edges (num u)) (skipped K f rest))) same A);
             invariant =
-                turn-invariant K L out size n start goal few in-start G s order I u (here .lane) (q .1)
-                (subst (λ (x : C). L .size x < far K L n) (q .0) (here .finite)) ng low;
+                turn-invariant K L out size n start goal few in-start G s order I u lu (q .1)
+                (subst (λ (x : C). L .size x < far) (q .0) (here lu .finite)) ng low;
             was-open = q .1;
             was-least = l;
+            no-goal = ng;
           }
+
+      gone : n ≤ u → Gone
+      unfolding pushAll
+      gone l =
+          record {
+            is = ap (λ (es : List (Edge C)). pushAll K (e .lane) (e .cost) es (skipped K f rest)) (R .missing (e .lane) l);
+            matches = dropped (λ lu. absurd (no u lu l));
+          }
+        where
+          no : (a : ℕ) → a < n → n ≤ a → ⊥
+          no a x y = omega arith
+
+      expands : e .lane ≢ num goal → isStale K f e ≡ false → Gone ⊎ Closed
+      expands ne t = go (ltb u n) refl
+        where
+          go : (b : Bool) → ltb u n ≡ b → Gone ⊎ Closed
+          go true b = inr (close (ltb-true u n b) ne t)
+          go false b = inl (gone (ltb-false u n b))
+
+      skips : isStale K f e ≡ true → Matches s (skipped K f rest)
+      skips t = dropped (λ lu. is-stale lu t)
+
+      -- the goal is there
+      goal-row : e .lane ≡ num goal → u ≡ goal
+      goal-row g = ap rowOf g ∙ N .row goal in-goal
+
+      goal-there : e .lane ≡ num goal → u < n
+      goal-there g = subst (λ (x : ℕ). x < n) (sym (goal-row g)) in-goal
 
   -- ---- what one turn of the array form does
   abbrev Run : ℕ → State C → Result C
@@ -446,10 +595,9 @@ module _ {C : Type 0} (K : Costs C) (L : Laws K) (num : ℕ → ℕ) (out : ℕ 
   unfolding run
   run-none k s e = rw (eq-eqb (leastNow s) size e)
 
-  run-goal : (k : ℕ) (s : State C) → leastNow s ≡ goal → goal < n
-      → found (rebuild size (s .prev) start goal (goal ∷ [])) (distOf K s goal) ≡ Run (suc k) s
+  run-goal : (k : ℕ) (s : State C) → leastNow s ≡ goal → found (rebuild size (s .prev) start goal (goal ∷ [])) (distOf K s goal) ≡ Run (suc k) s
   unfolding run
-  run-goal k s e l = rw (ne-eqb (leastNow s) size (below-size (leastNow s) goal e l), eq-eqb (leastNow s) goal e)
+  run-goal k s e = rw (ne-eqb (leastNow s) size (below-size (leastNow s) goal e in-goal), eq-eqb (leastNow s) goal e)
 
   run-next : (k u : ℕ) (s : State C) → leastNow s ≡ u → u < n → u ≢ goal → Run k (settled K out u s) ≡ Run (suc k) s
   unfolding run
@@ -464,107 +612,106 @@ module _ {C : Type 0} (K : Costs C) (L : Laws K) (num : ℕ → ℕ) (out : ℕ 
   none-left : (s : State C) (u : ℕ) → Open s u → zeros (s .closed) ≤ 0 → ⊥
   none-left s u o h = omega (arith, zeros-set (s .closed) u o)
 
+  abbrev Answer : ℕ → State C → Result C
+  Answer k s = numbered num (Run k s)
+
   turn : (k : ℕ) (s : State C) (u : ℕ) (r : Result C) → leastNow s ≡ u → u < n → Open s u → u ≢ goal → zeros (s .closed) ≤ k
-      → ((k′ : ℕ) → zeros ((settled K out u s) .closed) ≤ k′ → r ≡ Run (suc k′) (settled K out u s)) → r ≡ Run (suc k) s
+      → ((k′ : ℕ) → zeros ((settled K out u s) .closed) ≤ k′ → r ≡ Answer (suc k′) (settled K out u s)) → r ≡ Answer (suc k) s
   turn zero s u r e l o ne h ih = absurd (none-left s u o h)
-  turn (suc k) s u r e l o ne h ih = ih k (fewer s u k o h) ∙ run-next (suc k) u s e l ne
+  turn (suc k) s u r e l o ne h ih = ih k (fewer s u k o h) ∙ ap (numbered num) (run-next (suc k) u s e l ne)
 
   -- ---- a run of the heap form
-  runs-same : {f : Frontier C} {r : Result C} → Runs K cmp out size start goal f r
-      → (s : State C) (heap : List (Entry C)) (order : List ℕ) (k : ℕ)
-      → f ≡ frontOf K L n s heap → Inv s order → Fits s heap → zeros (s .closed) ≤ k → r ≡ Run (suc k) s
-  runs-same (empty z) s heap order k p I M h = run-none k s (none-open s heap order I M (ap (λ (f : Frontier C). f .heap) (sym p) ∙ z))
-  runs-same (reached {e = e} {rest = rest} {chain = l} P g B) s heap order k p I M h =
-      let P′ = subst (λ (f : Frontier C). Pops cmp (f .heap) e rest) p P in
-      let q = goal-current s heap order I M e rest P′ g in
-      let B′ = subst (λ (f : Frontier C). Rebuilds K f start goal (goal ∷ []) l) p B in
-      let lg : goal < n = subst (λ (x : ℕ). x < n) g (here s heap order I M e rest P′ .lane) in
-      ap₂ found (rebuilds-one K B′ (popped-back s heap order I M e rest P′ g)) (q .0 ∙ ap (distOf K s) g)
-      ∙ run-goal k s (popped s heap order I M e rest P′ (q .0) (q .1) ∙ g) lg
-  runs-same (stale {e = e} {rest = rest} P ne st R) s heap order k p I M h =
-      let P′ = subst (λ (f : Frontier C). Pops cmp (f .heap) e rest) p P in
-      let st′ = subst (λ (f : Frontier C). K .lt (getD (f .dist) (e .lane) (K .infinite)) (e .cost) ≡ true) p st in
-      let l = is-stale s heap order I M e rest P′ st′ in
-      runs-same R s rest order k (ap (λ (f : Frontier C). front K (f .dist) (f .prev) rest) p) I (dropped s heap order I M e rest P′ l) h
-  runs-same (fresh {e = e} {rest = rest} {r = r} P ne st R) s heap order k p I M h =
-      let P′ = subst (λ (f : Frontier C). Pops cmp (f .heap) e rest) p P in
-      let st′ = subst (λ (f : Frontier C). K .lt (getD (f .dist) (e .lane) (K .infinite)) (e .cost) ≡ false) p st in
-      let Q = close s heap order I M e rest P′ ne st′ in
-      let q = ap (λ (f : Frontier C). pushAll K (e .lane) (e .cost) (out (e .lane)) (front K (f .dist) (f .prev) rest)) p ∙ Q .is in
-      turn k s (e .lane) r (Q .was-least) (here s heap order I M e rest P′ .lane) (Q .was-open) ne h
-      (λ k′ h′. runs-same R (settled K out (e .lane) s) (Q .heap′) (e .lane ∷ order) k′ q (Q .invariant) (Q .matches) h′)
+  abbrev RunsFrom : Frontier C → Result C → Type 0
+  RunsFrom f r = Runs K cmp edges (num start) (num goal) f r
+
+  runs-same : {f : Frontier C} {r : Result C} → RunsFrom f r → (s : State C) (order : List ℕ) (k : ℕ) → Inv s order → Matches s f
+      → zeros (s .closed) ≤ k
+      → r ≡ Answer (suc k) s
+  runs-same {f} (empty z) s order k I M h = ap (numbered num) (run-none k s (none-open s f order I M z))
+  runs-same {f} (reached {e = e} {rest = rest} P g B) s order k I M h =
+      let lu = goal-there s f order I M e rest P g in
+      let gu = goal-row s f order I M e rest P g in
+      let q = goal-current s f order I M e rest P lu gu in
+      ap₂ found (rebuilds-one B (popped-back s f order I M e rest P lu gu)) (q .0 ∙ ap (distOf K s) gu)
+      ∙ ap (numbered num) (run-goal k s (popped s f order I M e rest P lu (q .0) (q .1) ∙ gu))
+  runs-same {f} (stale {e = e} {rest = rest} P ne t Q) s order k I M h = runs-same Q s order k I (skips s f order I M e rest P t) h
+  runs-same {f} (fresh {e = e} {rest = rest} {r = r} P ne t Q) s order k I M h =
+      ⊎-elim (λ g. runs-same Q s order k I (subst (Matches s) (sym (g .is)) (g .matches)) h)
+      (λ c. turn k s (rowOf (e .lane)) r (c .was-least) (c .lane) (c .was-open) (c .no-goal) h
+      (λ k′ h′. runs-same Q (settled K out (rowOf (e .lane)) s) (rowOf (e .lane) ∷ order) k′ (c .invariant) (c .matches) h′))
+      (expands s f order I M e rest P ne t)
 
   -- ---- every run ends: each turn takes an entry out of the heap or closes a lane
-  abbrev AllEnd : ℕ → Type 0
-  AllEnd k =
-      (j : ℕ) (s : State C) (heap : List (Entry C)) (order : List ℕ) → Inv s order → Fits s heap → zeros (s .closed) ≤ k → length heap ≤ j
-      → Ends K cmp out size start goal (frontOf K L n s heap)
+  abbrev EndsFrom : Frontier C → Type 0
+  EndsFrom f = Ends K cmp edges (num start) (num goal) f
 
-  fresh-ends : (k : ℕ) → ((k′ : ℕ) → k ≡ suc k′ → AllEnd k′) → (s : State C) (heap : List (Entry C)) (order : List ℕ) → Inv s order
-      → Fits s heap
-      → zeros (s .closed) ≤ k → (e : Entry C) (rest : List (Entry C)) → Pops cmp heap e rest → e .lane ≢ goal
-      → K .lt (distOf K s (e .lane)) (e .cost) ≡ false
-      → Ends K cmp out size start goal (pushAll K (e .lane) (e .cost) (out (e .lane)) (front K (s .dist) (s .prev) rest))
-  fresh-ends zero more s heap order I M h e rest P ne st =
-      absurd (none-left s (e .lane) (close s heap order I M e rest P ne st .was-open) h)
-  fresh-ends (suc k) more s heap order I M h e rest P ne st =
-      let Q = close s heap order I M e rest P ne st in
-      subst (Ends K cmp out size start goal) (sym (Q .is))
-      (more k refl (length (Q .heap′)) (settled K out (e .lane) s) (Q .heap′) (e .lane ∷ order) (Q .invariant) (Q .matches)
-      (fewer s (e .lane) k (Q .was-open) h) (le-refl _))
+  abbrev AllEnd : ℕ → ℕ → Type 0
+  AllEnd k j =
+      (s : State C) (f : Frontier C) (order : List ℕ) → Inv s order → Matches s f → zeros (s .closed) ≤ k → length (f .heap) ≤ j
+      → EndsFrom f
 
-  heap-ends : (k : ℕ) → ((k′ : ℕ) → k ≡ suc k′ → AllEnd k′) → AllEnd k
-  heap-ends k more zero s heap order I M h g =
-      ends (λ e rest P ne st. absurd (no (length heap) (length rest) (rest-shorter (P .taken)) g)) (fresh-ends k more s heap order I M h)
+  -- from fewer open lanes, or from as many and a shorter heap
+  one-turn : (k j : ℕ) → ((k′ j′ : ℕ) → k ≡ suc k′ → AllEnd k′ j′) → ((j′ : ℕ) → j ≡ suc j′ → AllEnd k j′) → AllEnd k j
+  one-turn k j closing shorter s f order I M h g =
+      ends (λ e rest P ne t. less e rest P (skips s f order I M e rest P t))
+      (λ e rest P ne t. ⊎-elim (λ x. subst EndsFrom (sym (x .is)) (less e rest P (x .matches))) (λ c. lower e rest P c)
+      (expands s f order I M e rest P ne t))
     where
-      no : (a b : ℕ) → a ≡ suc b → a ≤ 0 → ⊥
-      no a b p q = omega arith
-  heap-ends k more (suc j) s heap order I M h g =
-      ends
-      (λ e rest P ne st. heap-ends k more j s rest order I (dropped s heap order I M e rest P (is-stale s heap order I M e rest P st)) h
-      (less (length heap) (length rest) (rest-shorter (P .taken)) g))
-      (fresh-ends k more s heap order I M h)
-    where
-      less : (a b : ℕ) → a ≡ suc b → a ≤ suc j → b ≤ j
-      less a b p q = omega arith
+      less : (e : Entry C) (rest : List (Entry C)) → Pops cmp (f .heap) e rest → Matches s (skipped K f rest) → EndsFrom (skipped K f rest)
+      less e rest P M′ = go j refl
+        where
+          l : length (f .heap) ≡ suc (length rest)
+          l = rest-shorter (P .taken)
 
-  all-end : (k : ℕ) → AllEnd k
-  all-end zero = heap-ends zero (λ k′ e. absurd (no k′ e))
-    where
-      no : (k : ℕ) → 0 ≡ suc k → ⊥
-      no k e = omega arith
-  all-end (suc k) = heap-ends (suc k) (λ k′ e. subst AllEnd (pred k k′ e) (all-end k))
-    where
-      pred : (a b : ℕ) → suc a ≡ suc b → a ≡ b
-      pred a b e = omega arith
+          go : (i : ℕ) → j ≡ i → EndsFrom (skipped K f rest)
+          go zero p = absurd (omega (arith, l))
+          go (suc i) p = shorter i p s (skipped K f rest) order I M′ h (omega (arith, l))
+
+      lower : (e : Entry C) (rest : List (Entry C)) (P : Pops cmp (f .heap) e rest) → Closed s f order I M e rest P
+          → EndsFrom (grownFrom f e rest)
+      lower e rest P c = go k refl
+        where
+          u : ℕ
+          u = rowOf (e .lane)
+
+          go : (i : ℕ) → k ≡ i → EndsFrom (grownFrom f e rest)
+          go zero p = absurd (none-left s u (c .was-open) (omega arith))
+          go (suc i) p =
+              closing i (length ((grownFrom f e rest) .heap)) p (settled K out u s) (grownFrom f e rest) (u ∷ order) (c .invariant) (c .matches)
+              (fewer s u i (c .was-open) (omega arith)) (le-refl _)
+
+  no-suc : (a : ℕ) → 0 ≡ suc a → ⊥
+  no-suc a p = omega arith
+
+  pred : (a b : ℕ) → suc a ≡ suc b → a ≡ b
+  pred a b p = omega arith
+
+  by-heap : (k : ℕ) → ((k′ j′ : ℕ) → k ≡ suc k′ → AllEnd k′ j′) → (j : ℕ) → AllEnd k j
+  by-heap k closing zero = one-turn k zero closing (λ j′ p. absurd (no-suc j′ p))
+  by-heap k closing (suc j) = one-turn k (suc j) closing (λ j′ p. subst (AllEnd k) (pred j j′ p) (by-heap k closing j))
+
+  all-end : (k j : ℕ) → AllEnd k j
+  all-end zero j = by-heap zero (λ k′ j′ p. absurd (no-suc k′ p)) j
+  all-end (suc k) j = by-heap (suc k) (λ k′ j′ p. subst (λ (i : ℕ). AllEnd i j′) (pred k k′ p) (all-end k j′)) j
 
   -- ---- a run: a heap that is not empty pops, and the turns come to an end
-  abbrev RunsFrom : Frontier C → Result C → Type 0
-  RunsFrom f r = Runs K cmp out size start goal f r
-
   record SomeRun (f : Frontier C) : Type 0 where
     result : Result C
     runs : RunsFrom f result
 
   abbrev Onward : Frontier C → Type 0
-  Onward f =
-      (s : State C) (heap : List (Entry C)) (order : List ℕ) → f ≡ frontOf K L n s heap → Inv s order → Fits s heap → SomeRun f
-
-  abbrev staleIn : Frontier C → Entry C → Bool
-  staleIn f e = isStale K cmp out size start goal f e
+  Onward f = (s : State C) (order : List ℕ) → Inv s order → Matches s f → SomeRun f
 
   module _ (f : Frontier C)
-      (skip : (e : Entry C) (rest : List (Entry C)) → Pops cmp (f .heap) e rest → e .lane ≢ goal → staleIn f e ≡ true
-      → Onward (front K (f .dist) (f .prev) rest))
-      (more : (e : Entry C) (rest : List (Entry C)) → Pops cmp (f .heap) e rest → e .lane ≢ goal → staleIn f e ≡ false
-      → Onward (pushAll K (e .lane) (e .cost) (out (e .lane)) (front K (f .dist) (f .prev) rest))) where
+      (skip : (e : Entry C) (rest : List (Entry C)) → Pops cmp (f .heap) e rest → e .lane ≢ num goal → isStale K f e ≡ true
+      → Onward (skipped K f rest))
+      (more : (e : Entry C) (rest : List (Entry C)) → Pops cmp (f .heap) e rest → e .lane ≢ num goal → isStale K f e ≡ false
+      → Onward (grownFrom f e rest)) where
     one-more : Onward f
-    one-more s heap order p I M =
-        ⊎-elim (λ e. record { result = refused; runs = empty (ap (λ (g : Frontier C). g .heap) p ∙ e) }) by-entry
-        (heap-pops K L num cmp O heap (λ x m. M .each x m .cost))
+    one-more s order I M = ⊎-elim (λ e. record { result = refused; runs = empty e }) by-entry (heap-pops K L cmp O (f .heap) (M .costs))
       where
-        by-entry : Popped K L num cmp heap → SomeRun f
-        by-entry Q = go (ℕ-discrete (e .lane) goal) (staleIn f e) refl
+        by-entry : Popped K L cmp (f .heap) → SomeRun f
+        by-entry Q = go (ℕ-discrete (e .lane) (num goal)) (isStale K f e) refl
           where
             e : Entry C
             e = Q .entry
@@ -573,64 +720,67 @@ module _ {C : Type 0} (K : Costs C) (L : Laws K) (num : ℕ → ℕ) (out : ℕ 
             rest = Q .rest
 
             P : Pops cmp (f .heap) e rest
-            P = subst (λ (g : Frontier C). Pops cmp (g .heap) e rest) (sym p) (Q .pops)
+            P = Q .pops
 
-            at-state : (b : Bool) → staleIn f e ≡ b → K .lt (distOf K s (e .lane)) (e .cost) ≡ b
-            at-state b t = ap (λ (g : Frontier C). staleIn g e) (sym p) ∙ t
+            onward : e .lane ≢ num goal → isStale K f e ≡ false → SomeRun (grownFrom f e rest)
+            onward ne t =
+                ⊎-elim (λ g. more e rest P ne t s order I (subst (Matches s) (sym (g .is)) (g .matches)))
+                (λ c. more e rest P ne t (settled K out (rowOf (e .lane)) s) (rowOf (e .lane) ∷ order) (c .invariant) (c .matches))
+                (expands s f order I M e rest P ne t)
 
-            go : Dec (e .lane ≡ goal) → (b : Bool) → staleIn f e ≡ b → SomeRun f
+            go : Dec (e .lane ≡ num goal) → (b : Bool) → isStale K f e ≡ b → SomeRun f
             go (yes g) b t =
-                let l = rebuild size (s .prev) start goal (goal ∷ []) in
-                let B = popped-back s heap order I M e rest (Q .pops) g in
+                let lu = goal-there s f order I M e rest P g in
+                let gu = goal-row s f order I M e rest P g in
                 record {
-                  result = found l (e .cost);
-                  runs = reached P g (subst (λ (h : Frontier C). Rebuilds K h start goal (goal ∷ []) l) (sym p) B);
+                  result = found (map num (rebuild size (s .prev) start goal (goal ∷ []))) (e .cost);
+                  runs = reached P g (popped-back s f order I M e rest P lu gu);
                 }
             go (no ne) true t =
-                let l = is-stale s heap order I M e rest (Q .pops) (at-state true t) in
-                let q = ap (λ (g : Frontier C). front K (g .dist) (g .prev) rest) p in
-                let R = skip e rest P ne t s rest order q I (dropped s heap order I M e rest (Q .pops) l) in
-                record { result = R .result; runs = stale P ne t (R .runs) }
-            go (no ne) false t =
-                let N = close s heap order I M e rest (Q .pops) ne (at-state false t) in
-                let q = ap (λ (g : Frontier C). pushAll K (e .lane) (e .cost) (out (e .lane)) (front K (g .dist) (g .prev) rest)) p ∙ N .is in
-                let R = more e rest P ne t (settled K out (e .lane) s) (N .heap′) (e .lane ∷ order) q (N .invariant) (N .matches) in
-                record { result = R .result; runs = fresh P ne t (R .runs) }
+                let S = skip e rest P ne t s order I (skips s f order I M e rest P t) in
+                record { result = S .result; runs = stale P ne t (S .runs) }
+            go (no ne) false t = let S = onward ne t in record { result = S .result; runs = fresh P ne t (S .runs) }
 
-  some-run : {f : Frontier C} → Ends K cmp out size start goal f → Onward f
+  some-run : {f : Frontier C} → EndsFrom f → Onward f
   some-run {f} (ends skip more) =
       one-more f (λ e rest P ne t. some-run (skip e rest P ne t)) (λ e rest P ne t. some-run (more e rest P ne t))
 
   -- ---- as `lane_path` begins
-  none-matches : Fits (blank K size) []
+  abbrev blankFront : Frontier C
+  blankFront = front K (λ x. none) (λ x. none) []
+
+  none-matches : Matches (blank K size) blankFront
   unfolding blank
   none-matches =
       record {
-        full =
-            λ v lv o r. absurd (no (L .size (getD (replicate size (K .infinite)) v (K .infinite))) (far K L n)
-            (ap (L .size) (replicate-all size v (K .infinite))) r);
+        dist = λ v lv. sym (replicate-all size v (K .infinite));
+        prev = λ v lv r. absurd (far-off v r);
+        full = λ v lv o r. absurd (far-off v r);
+        costs = λ x m. absurd (List·Memᴰ·not-nil m);
         each = λ x m. absurd (List·Memᴰ·not-nil m);
         apart = tt;
       }
     where
-      no : (a b : ℕ) → a ≡ b → a < b → ⊥
-      no a b x y = omega arith
+      far-off : (v : ℕ) → L .size (getD (replicate size (K .infinite)) v (K .infinite)) < far → ⊥
+      far-off v r = no (L .size (getD (replicate size (K .infinite)) v (K .infinite))) far (ap (L .size) (replicate-all size v (K .infinite))) r
+        where
+          no : (a b : ℕ) → a ≡ b → a < b → ⊥
+          no a b x y = omega arith
 
   first-state : State C
   first-state = expanded K start (K .none) (out start) (blank K size)
 
-  first-pushed : AllPushed K L n start (K .none) (out start) (blank K size) []
-  unfolding blank
-  first-pushed =
-      push-all K L n size few (out start) start (K .none) (blank K size) [] none-matches (L .none-cost) (G .costs start in-start)
-      (G .inside start in-start)
+  abbrev begins : Frontier C
+  begins = begun K cmp edges (num start) (num goal)
+
+  first-matches : Matches first-state begins
+  unfolding blank first-state
+  first-matches =
+      subst (λ (es : List (Edge C)). Matches (expanded K start (K .none) es (blank K size)) begins) (sym (R .rows start in-start))
+      (push-all (edges (num start)) start (K .none) (blank K size) blankFront none-matches (L .none-cost) (R .costs start in-start)
       (λ w. subst (L .Cost) (sym (replicate-all size w (K .infinite))) (L .infinite-cost)) (length-replicate size (K .infinite))
       (length-replicate size 0)
-      (λ w lw. inl (getD-replicate size w 0 1 (omega arith)))
-
-  begun-is : begun K cmp out size start goal ≡ frontOf K L n first-state (first-pushed .heap′)
-  unfolding blank first-state
-  begun-is = first-pushed .is
+      (λ w lw. inl (getD-replicate size w 0 1 (omega arith))))
 
   first-holds : Inv first-state []
   unfolding first-state
@@ -639,28 +789,19 @@ module _ {C : Type 0} (K : Costs C) (L : Laws K) (num : ℕ → ℕ) (out : ℕ 
   first-zeros : zeros (first-state .closed) ≤ size
   first-zeros = omega (arith, first-holds .marks)
 
-  first-matches : Fits first-state (first-pushed .heap′)
-  unfolding first-state
-  first-matches = first-pushed .matches
-
   -- each run gives what the array form answers
-  heap-same : {r : Result C} → RunsFrom (begun K cmp out size start goal) r → r ≡ searched K num out size n start goal
+  heap-same : {r : Result C} → RunsFrom begins r → r ≡ numbered num (searched K num out size n start goal)
   unfolding searched first-state
-  heap-same R = runs-same R first-state (first-pushed .heap′) [] size begun-is first-holds first-matches first-zeros
+  heap-same Q = runs-same Q first-state [] size first-holds first-matches first-zeros
 
-  heap-finishes : Ends K cmp out size start goal (begun K cmp out size start goal)
-  heap-finishes =
-      subst (Ends K cmp out size start goal) (sym begun-is)
-      (all-end size (length (first-pushed .heap′)) first-state (first-pushed .heap′) [] first-holds first-matches first-zeros (le-refl _))
+  heap-finishes : EndsFrom begins
+  heap-finishes = all-end size (length (begins .heap)) first-state begins [] first-holds first-matches first-zeros (le-refl _)
 
-  heap-runs : SomeRun (begun K cmp out size start goal)
-  heap-runs = some-run heap-finishes first-state (first-pushed .heap′) [] begun-is first-holds first-matches
+  heap-runs : SomeRun begins
+  heap-runs = some-run heap-finishes first-state [] first-holds first-matches
 
   -- THE TWO FORMS: the heap form gives what the array form answers
-  pub heap-gives : Gives K cmp out size start goal (begun K cmp out size start goal) (searched K num out size n start goal)
+  pub heap-gives : Gives K cmp edges (num start) (num goal) (begun K cmp edges (num start) (num goal))
+      (numbered num (searched K num out size n start goal))
   heap-gives =
-      record {
-        runs = subst (RunsFrom (begun K cmp out size start goal)) (heap-same (heap-runs .runs)) (heap-runs .runs);
-        only = heap-same;
-        ends = heap-finishes;
-      }
+      record { runs = subst (RunsFrom begins) (heap-same (heap-runs .runs)) (heap-runs .runs); only = heap-same; ends = heap-finishes }

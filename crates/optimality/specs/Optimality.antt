@@ -1,6 +1,6 @@
 -- What the search finds over tables that hold a plan's lanes and links is optimal among all chains of link records.
 use mathlib.Core.Bool.{Bool, cond, false, true, true≢false, _&&_, _||_}
-use mathlib.Core.List.{List, List·Memᴰ, List·Memᴰ·append-cases, Memᴰ·append-left, Memᴰ·append-right, append-nil, map, [], _++_, _∷_}
+use mathlib.Core.List.{List, List·Memᴰ, List·Memᴰ·append-cases, Memᴰ·append-left, Memᴰ·append-right, Memᴰ·of-map, append-nil, map, [], _++_, _∷_}
 use mathlib.Core.Logic.{inl, inr, ⊎-elim, _⊎_}
 use mathlib.Core.Path.{ap, ap₂, refl, subst, sym, _∙_, _≡_}
 use Prim.Native.Nat.{suc, ℕ, _*_, _+_, _^_, _<_, _≤_}
@@ -13,9 +13,8 @@ use borrow.Author.Tests.{eq-eqb, eqb-true, le-ltb, lt-ltb, ltb-false, ltb-true}
 use Rattle.exact.specs.Fractions.{eq-units}
 use Rattle.exact.specs.Sums.{Cost, LinkCost, cost-lt, cost-unique, link-cost, link-cost-finite, up-to}
 use Rattle.exact.specs.Values.{U, U-pos, size-of}
-use Rattle.float.specs.declared.choose.Order.{Order}
 use Rattle.plan_format.specs.Laws.{and-both, and-fst, and-snd}
-use Rattle.plan_format.specs.Plan.{indexOf}
+use Rattle.plan_format.specs.Plan.{indexOf, repeats}
 use Rattle.plan_format.specs.Records.{Link}
 use Rattle.plan_format.specs.Tables.{linked}
 use Rattle.rows.specs.Rows.{firstLink, firstNeighbour, laneNumber, neighbours, successors}
@@ -24,9 +23,9 @@ use Rattle.search.specs.LaneGraph.{LaneGraph, edges, f32Costs, laneChange, leng
 use Rattle.search.specs.Search.{Edge, Result, found, refused}
 use Rattle.optimality.specs.Chains.{Optimal, addSteps, chainCost, hasLink, isChain, isStep, laneLength, leadsTo, stepCost}
 use Rattle.optimality.specs.Correct.{search-correct}
-use Rattle.optimality.specs.Heap.{Entry, Gives, begun, compareEntries}
+use Rattle.optimality.specs.Heap.{Gives, begun, compareEntries, edgesFrom, numbered, toward}
 use Rattle.optimality.specs.HeapOrder.{entries-ordered}
-use Rattle.optimality.specs.HeapSame.{heap-gives}
+use Rattle.optimality.specs.HeapSame.{Numbering, Restricts, heap-gives, kept}
 use Rattle.optimality.specs.Invariant.{Linking}
 use Rattle.optimality.specs.Laws.{f32-laws}
 use Rattle.optimality.specs.Rows.{ChainsOk, Tabled, cheapest-steps, edges-are, numberAt, or-right, row, row-below, row-link}
@@ -86,6 +85,28 @@ or-cases false b e = inr e
 
 or-left : (a b : Bool) → a ≡ true → (a || b) ≡ true
 or-left a b p = ap (λ (x : Bool). x || b) p
+
+-- ---- edges
+-- those of a role, which lead to these numbers, by their rows
+kept-steps : (numbers : List ℕ) (few : length numbers ≤ 256) (distinct : repeats numbers ≡ false) (w : Float) (ts : List ℕ)
+    → kept (length numbers) (row numbers few) (map (toward w) ts) ≡ stepsTo numbers few distinct w ts
+unfolding kept stepsTo
+kept-steps numbers few distinct w [] = refl
+kept-steps numbers few distinct w (t ∷ ts) = rw (kept-steps numbers few distinct w ts)
+
+kept-append : (n : ℕ) (rowOf : ℕ → ℕ) (xs ys : List (Edge Float)) → kept n rowOf (xs ++ ys) ≡ kept n rowOf xs ++ kept n rowOf ys
+unfolding kept
+kept-append n rowOf [] ys = refl
+kept-append n rowOf (x ∷ xs) ys = go (ltb (rowOf (x .to)) n) (kept-append n rowOf xs ys)
+  where
+    edge : Edge Float
+    edge = record { to = rowOf (x .to); cost = x .cost }
+
+    go : (b : Bool) → kept n rowOf (xs ++ ys) ≡ kept n rowOf xs ++ kept n rowOf ys
+        → cond b (edge ∷ kept n rowOf (xs ++ ys)) (kept n rowOf (xs ++ ys))
+        ≡ cond b (edge ∷ kept n rowOf xs) (kept n rowOf xs) ++ kept n rowOf ys
+    go true e = ap (λ (es : List (Edge Float)). edge ∷ es) e
+    go false e = e
 
 -- a link record leaves a lane that is there
 lane-left : (numbers : List ℕ) (xs : List Link) (role x y : ℕ)
@@ -239,6 +260,49 @@ module _ (numbers : List ℕ) (lengths : List Float) (links : List Link) (lanes 
       go false true p = refl
       go false false p = absurd (true≢false (sym p))
 
+  -- ---- the edges of `expand`, by number, are the links of the tables and those to missing lanes
+  abbrev edgesAt : ℕ → List (Edge Float)
+  edgesAt x = edgesFrom numbers lengths links x
+
+  numbering : Numbering (G .count) (laneNumber lanes) R
+  numbering =
+      record {
+        number = λ x l. T .number (R x) (lane (R x) l) ∙ row-below numbers (A .few) x (lane (R x) l);
+        row = λ u l. ap R (T .number u (lane u l)) ∙ row-number numbers (A .few) (A .distinct) u (lane u l);
+      }
+
+  edges-there : (u : ℕ) → u < n
+      → edgesAt (laneNumber lanes u) ≡ map (toward (len u)) (linked links (N u) 0) ++ map (toward laneChange) (linked links (N u) 2)
+  unfolding edgesFrom
+  edges-there u l =
+      rw (T .number u l, lt-ltb (R (N u)) n (subst (λ (k : ℕ). k < n) (sym (row-number numbers (A .few) (A .distinct) u l)) l), lane-length u l)
+
+  edge-cost : (u : ℕ) → u < n → (e : Edge Float) → List·Memᴰ e (edgesAt (laneNumber lanes u)) → LinkCost (e .cost)
+  edge-cost u l e m =
+      ⊎-elim (of-role (len u) (linked links (N u) 0) (A .long u l)) (of-role laneChange (linked links (N u) 2) change-cost)
+      (List·Memᴰ·append-cases (map (toward (len u)) (linked links (N u) 0))
+      (subst (λ (es : List (Edge Float)). List·Memᴰ e es) (edges-there u l) m))
+    where
+      of-role : (w : Float) (ts : List ℕ) → LinkCost w → List·Memᴰ e (map (toward w) ts) → LinkCost (e .cost)
+      of-role w ts c m = subst LinkCost (ap (λ (x : Edge Float). x .cost) (Memᴰ·of-map (toward w) ts m .2)) c
+
+  edges-kept : (u : ℕ) → u < n → out G u ≡ kept (G .count) R (edgesAt (laneNumber lanes u))
+  edges-kept u l =
+      out-are u l
+      ∙ sym (ap₂ _++_ (kept-steps numbers (A .few) (A .distinct) (len u) (linked links (N u) 0))
+      (kept-steps numbers (A .few) (A .distinct) laneChange (linked links (N u) 2)))
+      ∙ sym (kept-append n R (map (toward (len u)) (linked links (N u) 0)) (map (toward laneChange) (linked links (N u) 2)))
+      ∙ ap₂ (λ (k : ℕ) (es : List (Edge Float)). kept k R es) (sym (T .count)) (sym (edges-there u l))
+
+  restricts : Restricts f32Costs f32-laws (G .count) (laneNumber lanes) R edgesAt (out G)
+  unfolding f32-laws edgesFrom
+  restricts =
+      record {
+        costs = λ u l. edge-cost u (lane u l);
+        rows = λ u l. edges-kept u (lane u l);
+        missing = λ x l. rw (le-ltb (R x) n (subst (λ (k : ℕ). k ≤ R x) (T .count) l));
+      }
+
   -- ---- chains of numbers are walks of rows
   step-lane : (x y : ℕ) → isStep links x y ≡ true → R x < n
   step-lane x y h =
@@ -357,15 +421,10 @@ module _ (numbers : List ℕ) (lengths : List Float) (links : List Link) (lanes 
         by-result (searchedIn lanes G start goal) (right (laneNumber lanes))
 
     -- ---- the heap form of route.rs gives this chain at this cost
-    distinct-numbers : (a b : ℕ) → a < G .count → b < G .count → laneNumber lanes a ≡ laneNumber lanes b → a ≡ b
-    distinct-numbers a b la lb e =
-        let p : N a ≡ N b = sym (T .number a (lane a la)) ∙ e ∙ T .number b (lane b lb) in
-        sym (row-number numbers (A .few) (A .distinct) a (lane a la)) ∙ ap R p ∙ row-number numbers (A .few) (A .distinct) b (lane b lb)
-
-    abbrev cmp : Entry Float → Entry Float → Order
-    cmp = compareEntries (laneNumber lanes)
-
-    pub heap-chain : Gives f32Costs cmp (out G) 256 start goal (begun f32Costs cmp (out G) 256 start goal) (searchedIn lanes G start goal)
+    pub heap-chain : Gives f32Costs compareEntries edgesAt (laneNumber lanes start) (laneNumber lanes goal)
+        (begun f32Costs compareEntries edgesAt (laneNumber lanes start) (laneNumber lanes goal))
+        (numbered (laneNumber lanes) (searchedIn lanes G start goal))
     heap-chain =
-        heap-gives f32Costs f32-laws (laneNumber lanes) (out G) 256 (G .count) start goal (rw (T .count) (A .few)) (rw (T .count) ls) linking
-        distinct-numbers cmp (entries-ordered (laneNumber lanes))
+        heap-gives f32Costs f32-laws (laneNumber lanes) R edgesAt (out G) 256 (G .count) start goal (rw (T .count) (A .few)) (rw (T .count) ls)
+        (rw (T .count) lg)
+        numbering restricts linking compareEntries entries-ordered

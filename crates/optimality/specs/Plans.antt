@@ -20,7 +20,7 @@ use Rattle.search.specs.Search.{Result, found, refused}
 use Rattle.tables.specs.LaneTables.{noLane}
 use Rattle.tables.specs.Lines.{cost, number-is}
 use Rattle.optimality.specs.Chains.{OptimalIn, lengthOf, lengthsOf, numbersOf}
-use Rattle.optimality.specs.Heap.{Gives, begun, compareEntries}
+use Rattle.optimality.specs.Heap.{Gives, begun, compareEntries, edgesFrom, numbered}
 use Rattle.optimality.specs.Optimality.{OptimalResult, heap-chain, optimal}
 use Rattle.optimality.specs.Rows.{ChainsOk, Tabled}
 
@@ -35,12 +35,12 @@ OptimalFrom p start goal refused =
 OptimalFrom p start goal (found chain cost) =
     let number = laneNumber (planRows p .lanes) in OptimalIn p (number start) (number goal) true (map number chain) cost
 
--- the search of route.rs over the plan, with its heap and `Ord for State`, gives r
+-- the search of route.rs over the plan's lanes and link records, from one lane number to another, with its maps, its heap and
+-- `Ord for State`, gives r
 abbrev pub HeapGives : Plan → ℕ → ℕ → Result Float → Type 0
 HeapGives p start goal r =
-    let cmp = compareEntries (laneNumber (planRows p .lanes)) in
-    let links = out (graphIn p) in
-    Gives f32Costs cmp links 256 start goal (begun f32Costs cmp links 256 start goal) r
+    let edges = edgesFrom (numbersOf p) (lengthsOf p) (p .links) in
+    Gives f32Costs compareEntries edges start goal (begun f32Costs compareEntries edges start goal) r
 
 module _ (p : Plan) (A : Accepted p) where
   abbrev ns : List ℕ
@@ -152,8 +152,9 @@ module _ (p : Plan) (A : Accepted p) where
 
     -- THE HEAP FORM. Document 01, "`HashMap` and `BinaryHeap` in `Search`": the search carries its distances and predecessors inside its
     -- state, and takes the least cost first, among equal costs the larger lane number. It gives what the Rust gives by its heap: that loop
-    -- comes to an end, with this chain at this cost, or refused where this is
-    pub heap-form : HeapGives p start goal (searchedIn (planRows p .lanes) (graphIn p) start goal)
+    -- comes to an end, with the numbers of this chain at this cost, or refused where this is. Links to missing lanes change nothing
+    pub heap-form : let number = laneNumber (planRows p .lanes) in
+        HeapGives p (number start) (number goal) (numbered number (searchedIn (planRows p .lanes) (graphIn p) start goal))
     heap-form =
         heap-chain ns (lengthsOf p) (p .links) (planRows p .lanes) (graphIn p) chains-ok tabled start goal (in-numbers start ls)
         (in-numbers goal lg)
