@@ -15,10 +15,10 @@ use Rattle.plan_format.specs.Records.{Link}
 use Rattle.plan_format.specs.Tables.{linked}
 use Rattle.rows.specs.Rows.{laneNumber}
 use Rattle.search.specs.LaneGraph.{LaneGraph, edges, f32Costs, laneChange, laneGraph, out, searchedIn}
-use Rattle.search.specs.Search.{Result, blank, expanded, found, leastOpen, marked, rebuild, refused, relaxed, run, searched, settled}
+use Rattle.search.specs.Search.{Edge, Result, blank, expanded, found, leastOpen, marked, rebuild, refused, relaxed, run, searched, settled}
 use Rattle.optimality.specs.Chains.{addSteps, chainCost, changeCost, hasLink, isChain, leadsTo, stepCost}
-use Rattle.optimality.specs.Heap.{Entry, Pops, Runs, Taken, back, begun, compareEntries, edgesFrom, first, fresh, further, later}
-use Rattle.optimality.specs.Heap.{numbered, push, pushAll, reached}
+use Rattle.optimality.specs.Heap.{Entry, Frontier, Pops, Runs, Taken, back, begun, compareEntries, edgesFrom, first, fresh, further}
+use Rattle.optimality.specs.Heap.{later, numbered, push, pushAll, reached}
 use Rattle.optimality.specs.HeapOrder.{isGreater, not-greater}
 
 -- 8, 16, 30 and 32 m
@@ -106,22 +106,34 @@ none-greater e (y ∷ ys) h x m = go (isGreater (compareEntries y e)) refl h (no
 pops : (e : Entry Float) (heap rest : List (Entry Float)) → Taken e heap rest → noneGreater e heap ≡ true → Pops compareEntries heap e rest
 pops e heap rest t h = record { taken = t; greatest = none-greater e heap h }
 
--- the loop from one lane to another, over lanes with these numbers and lengths, gives this
-abbrev HeapRun : List ℕ → List Float → List Link → ℕ → ℕ → Result Float → Type 0
-HeapRun numbers lengths links start goal r =
-    let from = edgesFrom numbers lengths links in
-    Runs f32Costs compareEntries from start goal (begun f32Costs compareEntries from start goal) r
+-- the loop from one lane to another
+module _ (edgesOf : ℕ → List (Edge Float)) (start goal : ℕ) where
+  abbrev heapBegun : Frontier Float
+  heapBegun = begun f32Costs compareEntries edgesOf start goal
+
+  abbrev HeapRun : Result Float → Type 0
+  HeapRun r = Runs f32Costs compareEntries edgesOf start goal heapBegun r
+
+abbrev fourEdges : ℕ → List (Edge Float)
+fourEdges = edgesFrom (1 ∷ 2 ∷ 3 ∷ 4 ∷ []) (m8 ∷ m8 ∷ m8 ∷ m8 ∷ []) fourLinks
+
+abbrev missingEdges : ℕ → List (Edge Float)
+missingEdges = edgesFrom (1 ∷ 2 ∷ []) (m8 ∷ m8 ∷ []) missingLinks
 
 -- lanes 2 and 3 cost the same: 3 is popped first, then 2, whose link does not improve on lane 4, and then 4
-heap-run : HeapRun (1 ∷ 2 ∷ 3 ∷ 4 ∷ []) (m8 ∷ m8 ∷ m8 ∷ m8 ∷ []) fourLinks 1 4 (found (1 ∷ 3 ∷ 4 ∷ []) m16)
+heap-run : HeapRun fourEdges 1 4 (found (1 ∷ 3 ∷ 4 ∷ []) m16)
 unfolding pushAll push edgesFrom linked indexOf ofBits lt eq isNan isNegative add sum round size units odd trailingZeros
 heap-run =
     fresh (pops _ _ _ first refl) (eqb-false 3 4 refl) refl
     (fresh (pops _ _ _ (later first) refl) (eqb-false 2 4 refl) refl
     (reached (pops _ _ _ first refl) refl (further refl (eqb-false 3 1 refl) (back refl))))
 
--- lane 9 is missing: its entry, at 8, is popped before lane 2's, at 30, and pushes nothing
-missing-run : HeapRun (1 ∷ 2 ∷ []) (m8 ∷ m8 ∷ []) missingLinks 1 2 (found (1 ∷ 2 ∷ []) m30)
+-- the missing lane 9 is pushed as any other; its entry, the cheaper, is popped first and pushes nothing, and then 2 is popped
+missing-pushed : heapBegun missingEdges 1 2 .heap ≡ record { cost = m30; lane = 2 } ∷ record { cost = m8; lane = 9 } ∷ []
+unfolding pushAll push edgesFrom linked indexOf ofBits lt add sum round size units odd trailingZeros
+missing-pushed = refl
+
+missing-run : HeapRun missingEdges 1 2 (found (1 ∷ 2 ∷ []) m30)
 unfolding pushAll push edgesFrom linked indexOf ofBits lt eq isNan isNegative add sum round size units odd trailingZeros
 missing-run =
     fresh (pops (record { cost = m8; lane = 9 }) _ _ (later first) refl) (eqb-false 9 2 refl) refl

@@ -1,4 +1,4 @@
--- `reconstruct` in the heap form: it comes to an end, reads no predecessor that is missing, and gives the chain that the array form rebuilds.
+-- `reconstruct` in the heap form: it ends, reads no predecessor that is missing, and gives the chain that the array form rebuilds.
 use mathlib.Core.Bool.{Bool, false, true, true≢false}
 use mathlib.Core.List.{List, List·Memᴰ, List·Memᴰ·cases-cons, List·Memᴰ·not-nil, List·Memᴰ·tail, map, [], _∷_}
 use mathlib.Core.Logic.{inl, inr, ⊎-elim}

@@ -1,12 +1,12 @@
 -- What the heap form answers is what the array form answers, with numbers for rows, and its loop ends.
--- Each open lane with an entry has it in the heap; every other entry is stale, or that of a missing lane, which has no edges. So a popped
--- entry of a lane that is there and that is not stale is that of the least open lane, the goal's is never stale, and no lane is expanded
--- twice but the start, which is expanded first without an entry, and those that are missing, which takes their entry out of the heap and
--- leaves the rest as it is.
-use mathlib.Core.Bool.{Bool, cond, false, true}
-use mathlib.Core.List.{List, List·Memᴰ, List·Memᴰ·cases-cons, List·Memᴰ·head, List·Memᴰ·not-nil, List·Memᴰ·tail, [], map, _∷_}
+-- Each open lane with an entry has it in the heap; every other entry is stale, or that of a missing lane. So a popped entry of a lane that
+-- is there, and that is not stale, is that of the least open lane, the goal's is never stale, and no lane that is there is expanded twice
+-- but the start, which is expanded first without an entry. A missing lane has no edges: whether its entry is stale or not, popping it
+-- leaves all else as it is.
+use mathlib.Core.Bool.{Bool, false, true}
+use mathlib.Core.List.{List, List·Memᴰ, List·Memᴰ·not-nil, [], map, _∷_}
 use mathlib.Core.Logic.{inl, inr, ⊎-elim, _⊎_, _≢_}
-use mathlib.Core.Option.{Option, Option·getD, none, some}
+use mathlib.Core.Option.{none}
 use mathlib.Core.Path.{ap, ap₂, refl, subst, sym, _∙_, _≡_}
 use Prim.Native.Nat.{suc, zero, ℕ, _<_, _≤_}
 use native.Mathlib.Decide.{ℕ-discrete}
@@ -14,64 +14,25 @@ use native.Mathlib.Nat.{le-antisymm, le-of-eq, le-refl, le-trans}
 use native.Mathlib.Omega.{arith}
 use lib.Dec.{ltb}
 use lib.ListN.{List·getD-eq-default, getD, getD-replicate, length, length-replicate, replicate, set}
-use lib.Seq.{getD-set-other, getD-set-same}
+use lib.Seq.{getD-set-other}
 use borrow.Author.Tests.{eq-eqb, ltb-false, ltb-true, ne-eqb}
 use Rattle.float.specs.declared.choose.Order.{Order}
 use Rattle.search.specs.Loops.{replicate-all}
-use Rattle.search.specs.Search.{Costs, Edge, Result, State, blank, distOf, expanded, found, leastOpen, marked, rebuild, refused, relaxed}
-use Rattle.search.specs.Search.{run, searched, settled}
-use Rattle.optimality.specs.Heap.{Ends, Entry, Frontier, Gives, Map, Pops, Rebuilds, Runs, Taken, begun, distAt, empty, ends}
-use Rattle.optimality.specs.Heap.{expandedFrom, first, fresh, front, insert, isStale, later, numbered, push, pushAll, reached, skipped}
-use Rattle.optimality.specs.Heap.{stale}
+use Rattle.search.specs.Search.{Costs, Edge, Result, State, blank, distOf, expanded, found, leastOpen, marked, rebuild, refused, run}
+use Rattle.search.specs.Search.{searched, settled}
+use Rattle.optimality.specs.Heap.{Ends, Entry, Frontier, Gives, Pops, Rebuilds, Runs, begun, distAt, empty, ends, expandedFrom}
+use Rattle.optimality.specs.Heap.{fresh, front, isStale, numbered, pushAll, reached, skipped, stale}
 use Rattle.optimality.specs.HeapChain.{goal-back, rebuilds-one}
+use Rattle.optimality.specs.HeapMatch.{ClosedLow, Current, Listed, Matches, Numbering, Restricts, apart-taken, distinct, entry, kept}
+use Rattle.optimality.specs.HeapMatch.{push-all, rest-in, rest-shorter, taken-cases}
 use Rattle.optimality.specs.HeapOrder.{NotBefore, Ordered, Popped, heap-pops, taken-in}
 use Rattle.optimality.specs.Invariant.{Invariant, Linking, first-invariant, open-unmarked, turn-invariant, zeros, zeros-set}
 use Rattle.optimality.specs.Laws.{Laws}
 use Rattle.optimality.specs.Least.{IsLeast, Open, least-is}
-use Rattle.optimality.specs.Relaxing.{AllCosts, Expanded, LinkCosts, distances-fall, limit, prevOf, relaxed-is, settled-marks, sizeAt}
+use Rattle.optimality.specs.Relaxing.{limit, settled-marks, sizeAt}
 
--- ---- numbers and rows
--- each of the n rows has a number of its own; a number of none of them has no row below n: its lane is missing
-pub record Numbering (n : ℕ) (num rowOf : ℕ → ℕ) : Type 0 where
-  pub number : (x : ℕ) → rowOf x < n → num (rowOf x) ≡ x
-  pub row : (v : ℕ) → v < n → rowOf (num v) ≡ v
-
--- the edges to lanes that are there, by their rows
-unfoldable pub kept : {C : Type 0} → ℕ → (ℕ → ℕ) → List (Edge C) → List (Edge C)
-kept n rowOf [] = []
-kept n rowOf (e ∷ es) =
-    cond (ltb (rowOf (e .to)) n) (record { to = rowOf (e .to); cost = e .cost } ∷ kept n rowOf es) (kept n rowOf es)
-
--- the links `out` of rows are the edges of their numbers but for those to missing lanes, and a missing lane has no edges
-pub record Restricts {C : Type 0} (K : Costs C) (L : Laws K) (n : ℕ) (num rowOf : ℕ → ℕ) (edges out : ℕ → List (Edge C)) : Type 0 where
-  pub costs : (u : ℕ) → u < n → LinkCosts K L (edges (num u))
-  pub rows : (u : ℕ) → u < n → out u ≡ kept n rowOf (edges (num u))
-  pub missing : (x : ℕ) → n ≤ rowOf x → edges x ≡ []
-
--- ---- maps
-insert-same : {A : Type 0} (m : Map A) (k x : ℕ) (v : A) → x ≡ k → insert m k v x ≡ some v
-insert-same m k x v e = rw (eq-eqb x k e)
-
-insert-other : {A : Type 0} (m : Map A) (k x : ℕ) (v : A) → x ≢ k → insert m k v x ≡ m x
-insert-other m k x v ne = rw (ne-eqb x k ne)
-
--- ---- taking an entry out
-taken-cases : {C : Type 0} {e x : Entry C} {xs ys : List (Entry C)} → Taken e xs ys → List·Memᴰ x xs → (x ≡ e) ⊎ List·Memᴰ x ys
-taken-cases first m = List·Memᴰ·cases-cons m
-taken-cases (later t) m =
-    ⊎-elim (λ p. inr (List·Memᴰ·head p)) (λ m′. ⊎-elim (λ p. inl p) (λ q. inr (List·Memᴰ·tail q)) (taken-cases t m′))
-    (List·Memᴰ·cases-cons m)
-
-rest-in : {C : Type 0} {e x : Entry C} {xs ys : List (Entry C)} → Taken e xs ys → List·Memᴰ x ys → List·Memᴰ x xs
-rest-in first m = List·Memᴰ·tail m
-rest-in (later t) m = ⊎-elim (λ p. List·Memᴰ·head p) (λ q. List·Memᴰ·tail (rest-in t q)) (List·Memᴰ·cases-cons m)
-
-rest-shorter : {C : Type 0} {e : Entry C} {xs ys : List (Entry C)} → Taken e xs ys → length xs ≡ suc (length ys)
-rest-shorter first = refl
-rest-shorter (later t) = ap suc (rest-shorter t)
-
-module _ {C : Type 0} (K : Costs C) (L : Laws K) (num rowOf : ℕ → ℕ) (edges out : ℕ → List (Edge C)) (size n start goal : ℕ) (few : n ≤ size)
-    (in-start : start < n) (in-goal : goal < n)
+module _ {C : Type 0} (K : Costs C) (L : Laws K) (num rowOf : ℕ → ℕ) (edges out : ℕ → List (Edge C)) (size n start goal : ℕ)
+    (few : n ≤ size) (in-start : start < n) (in-goal : goal < n)
     (N : Numbering n num rowOf) (R : Restricts K L n num rowOf edges out) (G : Linking K L out n)
     (cmp : Entry C → Entry C → Order) (O : Ordered K L cmp) where
   abbrev far : ℕ
@@ -83,253 +44,8 @@ module _ {C : Type 0} (K : Costs C) (L : Laws K) (num rowOf : ℕ → ℕ) (edge
   abbrev IsThere : ℕ → Type 0
   IsThere x = rowOf x < n
 
-  distinct : (a b : ℕ) → a < n → b < n → num a ≡ num b → a ≡ b
-  distinct a b la lb e = sym (N .row a la) ∙ ap rowOf e ∙ N .row b lb
-
-  -- entries of one lane that is there have different costs
-  abbrev Differs : Entry C → Entry C → Type 0
-  Differs x y = IsThere (x .lane) → x .lane ≡ y .lane → L .size (x .cost) ≡ L .size (y .cost) → ⊥
-
-  abbrev Apart : List (Entry C) → Type 0
-  Apart [] = Unit {0}
-  Apart (x ∷ xs) = ((y : Entry C) → List·Memᴰ y xs → Differs x y) × Apart xs
-
-  apart-taken : {e : Entry C} {xs ys : List (Entry C)} → Taken e xs ys → Apart xs
-      → Apart ys × ((y : Entry C) → List·Memᴰ y ys → Differs e y)
-  apart-taken first a = (a .1, a .0)
-  apart-taken {e} (later {x = x} t) a =
-      let r = apart-taken t (a .1) in
-      let there : Differs x e = a .0 e (taken-in t) in (
-        (λ y m. a .0 y (rest-in t m), r .0),
-        λ y m l p q. ⊎-elim
-            (λ z. let same : e .lane ≡ x .lane = p ∙ ap (λ (w : Entry C). w .lane) z in
-            there (subst IsThere same l) (sym same) (sym (q ∙ ap (λ (w : Entry C). L .size (w .cost)) z)))
-            (λ m′. r .1 y m′ l p q)
-            (List·Memᴰ·cases-cons m),
-      )
-
-  -- ---- a state of the array form and a frontier of the heap form
-  abbrev entry : State C → ℕ → Entry C
-  entry s v = record { cost = distOf K s v; lane = num v }
-
-  -- an entry of lane v at the cost c is stale, or that of an open lane
-  abbrev Current : State C → ℕ → C → Type 0
-  Current s v c = (at s v < L .size c) ⊎ ((c ≡ distOf K s v) × Open s v)
-
-  record Listed (s : State C) (v : ℕ) (c : C) : Type 0 where
-    finite : L .size c < far
-    current : Current s v c
-
-  -- of missing lanes it is only known that their entries are costs
-  record Matches (s : State C) (f : Frontier C) : Type 0 where
-    dist : (v : ℕ) → v < n → distAt K f (num v) ≡ distOf K s v
-    prev : (v : ℕ) → v < n → at s v < far → f .prev (num v) ≡ some (num (prevOf s v))
-    full : (v : ℕ) → v < n → Open s v → at s v < far → List·Memᴰ (entry s v) (f .heap)
-    costs : (x : Entry C) → List·Memᴰ x (f .heap) → L .Cost (x .cost)
-    each : (x : Entry C) → List·Memᴰ x (f .heap) → IsThere (x .lane) → Listed s (rowOf (x .lane)) (x .cost)
-    apart : Apart (f .heap)
-
-  -- no entry is below its lane's distance
-  listed-least : (s : State C) (v : ℕ) (c : C) → Listed s v c → at s v ≤ L .size c
-  listed-least s v c l = go (l .current)
-    where
-      go : Current s v c → at s v ≤ L .size c
-      go (inl l) = omega arith
-      go (inr p) = le-of-eq (ap (L .size) (sym (p .0)))
-
-  -- a closed lane has no greater distance than a
-  abbrev ClosedLow : State C → ℕ → Type 0
-  ClosedLow s a = (w : ℕ) → w < n → Open s w ⊎ (at s w ≤ a)
-
-  -- ---- one edge, to a lane that is there
-  module _ (u v : ℕ) (d : C) (s : State C) (f : Frontier C) (M : Matches s f) (costs : AllCosts K L s)
-      (in-dist : v < length (s .dist)) (in-prev : v < length (s .prev)) (lv : v < n)
-      (cost : L .Cost d) (low : ClosedLow s (L .size d)) where
-    abbrev t : State C
-    t = record { dist = set (s .dist) v d; prev = set (s .prev) v u; closed = s .closed }
-
-    abbrev new : Entry C
-    new = record { cost = d; lane = num v }
-
-    abbrev grown : Frontier C
-    grown = front K (insert (f .dist) (num v) d) (insert (f .prev) (num v) (num u)) (new ∷ f .heap)
-
-    there : distOf K t v ≡ d
-    there = getD-set-same (s .dist) v d (K .infinite) in-dist
-
-    elsewhere : (w : ℕ) → w ≢ v → distOf K t w ≡ distOf K s w
-    elsewhere w ne = getD-set-other (s .dist) v w d (K .infinite) ne
-
-    other : (w : ℕ) → w < n → w ≢ v → num w ≢ num v
-    other w lw ne e = ne (distinct w v lw lv e)
-
-    module _ (less : L .size d < at s v) where
-      open-there : Open s v
-      open-there = ⊎-elim (λ o. o) (λ l. absurd (no (at s v) (L .size d) less l)) (low v lv)
-        where
-          no : (a b : ℕ) → b < a → a ≤ b → ⊥
-          no a b x y = omega arith
-
-      dist-at : (w : ℕ) → w < n → Dec (w ≡ v) → distAt K grown (num w) ≡ distOf K t w
-      dist-at w lw (yes p) =
-          ap (λ (o : Option C). Option·getD o (K .infinite)) (insert-same (f .dist) (num v) (num w) d (ap num p))
-          ∙ sym there ∙ ap (distOf K t) (sym p)
-      dist-at w lw (no ne) =
-          ap (λ (o : Option C). Option·getD o (K .infinite)) (insert-other (f .dist) (num v) (num w) d (other w lw ne))
-          ∙ M .dist w lw ∙ sym (elsewhere w ne)
-
-      prev-at : (w : ℕ) → w < n → at t w < far → Dec (w ≡ v) → grown .prev (num w) ≡ some (num (prevOf t w))
-      prev-at w lw r (yes p) =
-          insert-same (f .prev) (num v) (num w) (num u) (ap num p)
-          ∙ ap (λ (x : ℕ). some (num x)) (sym (getD-set-same (s .prev) v u 0 in-prev) ∙ ap (prevOf t) (sym p))
-      prev-at w lw r (no ne) =
-          insert-other (f .prev) (num v) (num w) (num u) (other w lw ne)
-          ∙ M .prev w lw (subst (λ (a : C). L .size a < far) (elsewhere w ne) r)
-          ∙ ap (λ (x : ℕ). some (num x)) (sym (getD-set-other (s .prev) v w u 0 ne))
-
-      full-at : (w : ℕ) → w < n → Open s w → at t w < far → Dec (w ≡ v) → List·Memᴰ (entry t w) (new ∷ f .heap)
-      full-at w lw o r (yes p) = List·Memᴰ·head (λ i. record { cost = (ap (distOf K t) p ∙ there) i; lane = num (p i) })
-      full-at w lw o r (no ne) =
-          List·Memᴰ·tail (subst (λ (a : C). List·Memᴰ (record { cost = a; lane = num w }) (f .heap)) (sym (elsewhere w ne))
-          (M .full w lw o (subst (λ (a : C). L .size a < far) (elsewhere w ne) r)))
-
-      new-listed : Listed t v d
-      new-listed = record { finite = omega (arith, less, L .most _ (costs v)); current = inr (sym there, open-there) }
-
-      current-at : (w : ℕ) (c : C) → Listed s w c → Current s w c → Dec (w ≡ v) → Current t w c
-      current-at w c l e (yes p) =
-          inl (below (at t w) (L .size d) (at s v) (L .size c) (ap (at t) p ∙ ap (L .size) there) less known)
-        where
-          known : at s v ≤ L .size c
-          known = subst (λ (y : ℕ). at s y ≤ L .size c) p (listed-least s w c l)
-
-          below : (a b c e : ℕ) → a ≡ b → b < c → c ≤ e → a < e
-          below a b c e p q r = omega arith
-      current-at w c l (inl e) (no ne) = inl (subst (λ (a : C). L .size a < L .size c) (sym (elsewhere w ne)) e)
-      current-at w c l (inr q) (no ne) = inr (q .0 ∙ sym (elsewhere w ne), q .1)
-
-      listed-at : (w : ℕ) (c : C) → Listed s w c → Listed t w c
-      listed-at w c l = record { finite = l .finite; current = current-at w c l (l .current) (ℕ-discrete w v) }
-
-      new-apart : (y : Entry C) → List·Memᴰ y (f .heap) → Differs new y
-      new-apart y m l p q =
-          no (L .size d) (at s v) (L .size (y .cost)) less
-          (subst (λ (w : ℕ). at s w ≤ L .size (y .cost)) (ap rowOf (sym p) ∙ N .row v lv)
-          (listed-least s (rowOf (y .lane)) (y .cost) (M .each y m (subst IsThere p l)))) q
-        where
-          no : (a b c : ℕ) → a < b → b ≤ c → a ≡ c → ⊥
-          no a b c x y z = omega arith
-
-      each-at : (x : Entry C) → (x ≡ new) ⊎ List·Memᴰ x (f .heap) → IsThere (x .lane) → Listed t (rowOf (x .lane)) (x .cost)
-      each-at x (inl p) l =
-          subst (λ (y : Entry C). Listed t (rowOf (y .lane)) (y .cost)) (sym p)
-          (subst (λ (w : ℕ). Listed t w d) (sym (N .row v lv)) new-listed)
-      each-at x (inr m) l = listed-at (rowOf (x .lane)) (x .cost) (M .each x m l)
-
-      grown-matches : Matches t grown
-      grown-matches =
-          record {
-            dist = λ w lw. dist-at w lw (ℕ-discrete w v);
-            prev = λ w lw r. prev-at w lw r (ℕ-discrete w v);
-            full = λ w lw o r. full-at w lw o r (ℕ-discrete w v);
-            costs = λ x m. ⊎-elim (λ p. subst (λ (y : Entry C). L .Cost (y .cost)) (sym p) cost) (M .costs x) (List·Memᴰ·cases-cons m);
-            each = λ x m. each-at x (List·Memᴰ·cases-cons m);
-            apart = (new-apart, M .apart);
-          }
-
-    push-there : Matches (relaxed K u v d s) (push K (num u) (num v) d f)
-    unfolding push relaxed
-    push-there = rw (M .dist v lv) (go (K .lt d (distOf K s v)) refl)
-      where
-        go : (b : Bool) → K .lt d (distOf K s v) ≡ b → Matches (cond b t s) (cond b grown f)
-        go true b = grown-matches (ltb-true _ _ (sym (L .lt-size d (distOf K s v) cost (costs v)) ∙ b))
-        go false b = M
-
-  -- ---- one edge, to a missing lane: nothing is changed for those that are there
-  push-missing : (u x : ℕ) (d : C) (s : State C) (f : Frontier C) → Matches s f → n ≤ rowOf x → L .Cost d → Matches s (push K u x d f)
-  unfolding push
-  push-missing u x d s f M lx cost = go (K .lt d (distAt K f x))
-    where
-      new : Entry C
-      new = record { cost = d; lane = x }
-
-      other : (w : ℕ) → w < n → num w ≢ x
-      other w lw e = omega (arith, N .row w lw, ap rowOf e)
-
-      gone : IsThere x → ⊥
-      gone l = omega arith
-
-      go : (b : Bool) → Matches s (cond b (front K (insert (f .dist) x d) (insert (f .prev) x u) (record { cost = d; lane = x } ∷ f .heap)) f)
-      go true =
-          record {
-            dist = λ w lw. ap (λ (o : Option C). Option·getD o (K .infinite)) (insert-other (f .dist) x (num w) d (other w lw)) ∙ M .dist w lw;
-            prev = λ w lw r. insert-other (f .prev) x (num w) u (other w lw) ∙ M .prev w lw r;
-            full = λ w lw o r. List·Memᴰ·tail (M .full w lw o r);
-            costs = λ y m. ⊎-elim (λ p. subst (λ (z : Entry C). L .Cost (z .cost)) (sym p) cost) (M .costs y) (List·Memᴰ·cases-cons m);
-            each =
-                λ y m l. ⊎-elim (λ p. absurd (gone (subst (λ (z : Entry C). IsThere (z .lane)) p l))) (λ m′. M .each y m′ l)
-                (List·Memᴰ·cases-cons m);
-            apart = (λ y m l. absurd (gone l), M .apart);
-          }
-      go false = M
-
-  -- ---- a list of edges
-  push-all : (es : List (Edge C)) (u : ℕ) (c : C) (s : State C) (f : Frontier C) → Matches s f → L .Cost c → LinkCosts K L es
-      → AllCosts K L s → length (s .dist) ≡ size → length (s .prev) ≡ size → ClosedLow s (L .size c)
-      → Matches (expanded K u c (kept n rowOf es) s) (pushAll K (num u) c es f)
-  unfolding pushAll expanded kept
-  push-all [] u c s f M cost links costs ld lp low = M
-  push-all (e ∷ es) u c s f M cost links costs ld lp low =
-      go (ltb v n) refl (λ s′ f′ M′. push-all es u c s′ f′ M′ cost (λ x m. links x (List·Memᴰ·tail m)))
-    where
-      v : ℕ
-      v = rowOf (e .to)
-
-      d : C
-      d = K .add c (e .cost)
-
-      link : L .LinkCost (e .cost)
-      link = links e (List·Memᴰ·head refl)
-
-      d-cost : L .Cost d
-      d-cost = L .add-cost c (e .cost) cost link
-
-      Rest : State C → Frontier C → Type 0
-      Rest s′ f′ = Matches (expanded K u c (kept n rowOf es) s′) (pushAll K (num u) c es f′)
-
-      t : State C
-      t = relaxed K u v d s
-
-      low-there : ClosedLow s (L .size d)
-      low-there w lw = ⊎-elim (λ o. inl o) (λ l. inr (le-trans l (L .add-grows c (e .cost) cost link))) (low w lw)
-
-      go : (b : Bool) → ltb v n ≡ b
-          → ((s′ : State C) (f′ : Frontier C) → Matches s′ f′ → AllCosts K L s′ → length (s′ .dist) ≡ size → length (s′ .prev) ≡ size
-          → ClosedLow s′ (L .size c) → Rest s′ f′)
-          → Matches (expanded K u c (cond b (record { to = v; cost = e .cost } ∷ kept n rowOf es) (kept n rowOf es)) s)
-          (pushAll K (num u) c es (push K (num u) (e .to) d f))
-      go true b more = more t (push K (num u) (e .to) d f) pushed (E .costs) (E .dist-length ∙ ld) (E .prev-length ∙ lp) low′
-        where
-          lv : v < n
-          lv = ltb-true v n b
-
-          edge : Edge C
-          edge = record { to = v; cost = e .cost }
-
-          E : Expanded K L u c (edge ∷ []) s t
-          E = relaxed-is K L u c edge s cost link costs (omega (arith, lv, ld)) (omega (arith, lv, lp))
-
-          pushed : Matches t (push K (num u) (e .to) d f)
-          pushed =
-              subst (λ (x : ℕ). Matches t (push K (num u) x d f)) (N .number (e .to) lv)
-              (push-there u v d s f M costs (omega (arith, lv, ld)) (omega (arith, lv, lp)) lv d-cost low-there)
-
-          low′ : ClosedLow t (L .size c)
-          low′ w lw =
-              ⊎-elim (λ o. inl (subst (λ (m : List ℕ). getD m w 1 ≡ 0) (sym (E .same-marks)) o))
-              (λ l. inr (le-trans (distances-fall K L u c (edge ∷ []) s t E w) l)) (low w lw)
-      go false b more =
-          more s (push K (num u) (e .to) d f) (push-missing (num u) (e .to) d s f M (ltb-false v n b) d-cost) costs ld lp low
+  abbrev Fits : State C → Frontier C → Type 0
+  Fits s f = Matches K L num rowOf n s f
 
   -- ---- the loop
   abbrev Inv : State C → List ℕ → Type 0
@@ -344,7 +60,7 @@ module _ {C : Type 0} (K : Costs C) (L : Laws K) (num rowOf : ℕ → ℕ) (edge
   abbrev grownFrom : Frontier C → Entry C → List (Entry C) → Frontier C
   grownFrom f e rest = expandedFrom K cmp edges (num start) (num goal) f e rest
 
-  module _ (s : State C) (f : Frontier C) (order : List ℕ) (I : Inv s order) (M : Matches s f) where
+  module _ (s : State C) (f : Frontier C) (order : List ℕ) (I : Inv s order) (M : Fits s f) where
     least : IsLeast K L num size s n (leastNow s)
     least = least-is K L num size s (I .costs) n
 
@@ -356,7 +72,7 @@ module _ {C : Type 0} (K : Costs C) (L : Laws K) (num rowOf : ℕ → ℕ) (edge
         go (inl e) = e
         go (inr q) =
             let m = M .full (leastNow s) (q .0) (q .1) (q .2) in
-            absurd (List·Memᴰ·not-nil (subst (λ (h : List (Entry C)). List·Memᴰ (entry s (leastNow s)) h) p m))
+            absurd (List·Memᴰ·not-nil (subst (λ (h : List (Entry C)). List·Memᴰ (entry K num s (leastNow s)) h) p m))
 
     module _ (e : Entry C) (rest : List (Entry C)) (P : Pops cmp (f .heap) e rest) where
       inn : List·Memᴰ e (f .heap)
@@ -372,7 +88,7 @@ module _ {C : Type 0} (K : Costs C) (L : Laws K) (num rowOf : ℕ → ℕ) (edge
       not-before x m = O .not-before x e (M .costs x m) cost (P .greatest x m)
 
       -- an entry that is stale, or whose lane is missing, goes
-      dropped : (IsThere (e .lane) → at s u < L .size (e .cost)) → Matches s (skipped K f rest)
+      dropped : (IsThere (e .lane) → at s u < L .size (e .cost)) → Fits s (skipped K f rest)
       dropped l =
           record {
             dist = M .dist;
@@ -380,10 +96,10 @@ module _ {C : Type 0} (K : Costs C) (L : Laws K) (num rowOf : ℕ → ℕ) (edge
             full = λ v lv o r. ⊎-elim (λ p. absurd (no v lv p)) (λ m. m) (taken-cases (P .taken) (M .full v lv o r));
             costs = λ x m. M .costs x (rest-in (P .taken) m);
             each = λ x m. M .each x (rest-in (P .taken) m);
-            apart = apart-taken (P .taken) (M .apart) .0;
+            apart = apart-taken K L num rowOf n (P .taken) (M .apart) .0;
           }
         where
-          no : (v : ℕ) → v < n → entry s v ≡ e → ⊥
+          no : (v : ℕ) → v < n → entry K num s v ≡ e → ⊥
           no v lv p =
               clash (at s u) (L .size (e .cost)) (l (subst (λ (w : ℕ). w < n) (sym row) lv))
               (ap (λ (x : Entry C). L .size (x .cost)) (sym p) ∙ ap (at s) (sym row))
@@ -399,7 +115,7 @@ module _ {C : Type 0} (K : Costs C) (L : Laws K) (num rowOf : ℕ → ℕ) (edge
         number : num u ≡ e .lane
         number = N .number (e .lane) lu
 
-        here : Listed s u (e .cost)
+        here : Listed K L num rowOf n s u (e .cost)
         here = M .each e inn lu
 
         dist-here : distAt K f (e .lane) ≡ distOf K s u
@@ -427,9 +143,9 @@ module _ {C : Type 0} (K : Costs C) (L : Laws K) (num rowOf : ℕ → ℕ) (edge
                 let b = leastNow s in
                 let mb = M .full b (q .0) (q .1) (q .2) in
                 let same : L .size (e .cost) ≡ at s b =
-                le-antisymm (not-before (entry s b) mb .0) (le-trans (least .all u lu o) (le-of-eq (sym ke))) in
-                distinct b u (q .0) lu
-                (le-antisymm (subst (λ (x : ℕ). num b ≤ x) (sym number) (not-before (entry s b) mb .1 same))
+                le-antisymm (not-before (entry K num s b) mb .0) (le-trans (least .all u lu o) (le-of-eq (sym ke))) in
+                distinct N b u (q .0) lu
+                (le-antisymm (subst (λ (x : ℕ). num b ≤ x) (sym number) (not-before (entry K num s b) mb .1 same))
                 (least .largest u lu o ru (sym same ∙ ke)))
 
         -- the goal's entry is not stale
@@ -439,10 +155,10 @@ module _ {C : Type 0} (K : Costs C) (L : Laws K) (num rowOf : ℕ → ℕ) (edge
             open-goal : Open s u
             open-goal = ⊎-elim (λ o. o) (λ m. absurd (I .goal-open (subst (λ (x : ℕ). List·Memᴰ x order) g m))) (I .cover u lu)
 
-            go : Current s u (e .cost) → (e .cost ≡ distOf K s u) × Open s u
+            go : Current K L num rowOf n s u (e .cost) → (e .cost ≡ distOf K s u) × Open s u
             go (inl l) =
                 let r : at s u < far = less (at s u) (L .size (e .cost)) far l (here .finite) in
-                absurd (no (at s u) (L .size (e .cost)) l (not-before (entry s u) (M .full u lu open-goal r) .0))
+                absurd (no (at s u) (L .size (e .cost)) l (not-before (entry K num s u) (M .full u lu open-goal r) .0))
               where
                 less : (a b c : ℕ) → a < b → b < c → a < c
                 less a b c x y = omega arith
@@ -456,7 +172,7 @@ module _ {C : Type 0} (K : Costs C) (L : Laws K) (num rowOf : ℕ → ℕ) (edge
             → Rebuilds f (num start) (num goal) (num goal ∷ []) (map num (rebuild size (s .prev) start goal (goal ∷ [])))
         popped-back g =
             let q = goal-current g in
-            goal-back K L num out size n start goal in-start in-goal distinct s order I f (M .prev) (subst (Open s) g (q .1))
+            goal-back K L num out size n start goal in-start in-goal (distinct N) s order I f (M .prev) (subst (Open s) g (q .1))
             (subst (λ (x : ℕ). at s x < far) g (subst (λ (c : C). L .size c < far) (q .0) (here .finite)))
 
         is-stale : isStale K f e ≡ true → at s u < L .size (e .cost)
@@ -467,7 +183,7 @@ module _ {C : Type 0} (K : Costs C) (L : Laws K) (num rowOf : ℕ → ℕ) (edge
         is-current : isStale K f e ≡ false → (e .cost ≡ distOf K s u) × Open s u
         is-current t = go (here .current)
           where
-            go : Current s u (e .cost) → (e .cost ≡ distOf K s u) × Open s u
+            go : Current K L num rowOf n s u (e .cost) → (e .cost ≡ distOf K s u) × Open s u
             go (inl g) =
                 absurd (no (L .size (e .cost)) (at s u)
                 (ltb-false _ _ (sym (L .lt-size (distOf K s u) (e .cost) (I .costs u) cost)
@@ -478,7 +194,7 @@ module _ {C : Type 0} (K : Costs C) (L : Laws K) (num rowOf : ℕ → ℕ) (edge
             go (inr q) = q
 
         -- a closed lane goes with its entry
-        closed : e .cost ≡ distOf K s u → Matches (marked K u s) (skipped K f rest)
+        closed : e .cost ≡ distOf K s u → Fits (marked K u s) (skipped K f rest)
         unfolding marked
         closed ce =
             record {
@@ -488,25 +204,25 @@ module _ {C : Type 0} (K : Costs C) (L : Laws K) (num rowOf : ℕ → ℕ) (edge
               costs = λ x m. M .costs x (rest-in (P .taken) m);
               each = λ x m l. let q = M .each x (rest-in (P .taken) m) l in
                   record { finite = q .finite; current = current-at x m l (q .current) (ℕ-discrete (rowOf (x .lane)) u) };
-              apart = apart-taken (P .taken) (M .apart) .0;
+              apart = apart-taken K L num rowOf n (P .taken) (M .apart) .0;
             }
           where
-            full-at : (v : ℕ) → v < n → Open s v × (v ≢ u) → at s v < far → List·Memᴰ (entry s v) rest
+            full-at : (v : ℕ) → v < n → Open s v × (v ≢ u) → at s v < far → List·Memᴰ (entry K num s v) rest
             full-at v lv o r =
                 ⊎-elim (λ p. absurd (o .1 (sym (N .row v lv) ∙ ap (λ (x : Entry C). rowOf (x .lane)) p))) (λ m. m)
                 (taken-cases (P .taken) (M .full v lv (o .0) r))
 
-            current-at : (x : Entry C) → List·Memᴰ x rest → IsThere (x .lane) → Current s (rowOf (x .lane)) (x .cost)
+            current-at : (x : Entry C) → List·Memᴰ x rest → IsThere (x .lane) → Current K L num rowOf n s (rowOf (x .lane)) (x .cost)
                 → Dec (rowOf (x .lane) ≡ u)
                 → (at s (rowOf (x .lane)) < L .size (x .cost)) ⊎ ((x .cost ≡ distOf K s (rowOf (x .lane)))
                 × (getD (set (s .closed) u 1) (rowOf (x .lane)) 1 ≡ 0))
             current-at x m l (inl g) d = inl g
             current-at x m l (inr q) (yes p) =
-                absurd (apart-taken (P .taken) (M .apart) .1 x m lu (sym number ∙ ap num (sym p) ∙ N .number (x .lane) l)
+                absurd (apart-taken K L num rowOf n (P .taken) (M .apart) .1 x m lu (sym number ∙ ap num (sym p) ∙ N .number (x .lane) l)
                 (ap (L .size) (ce ∙ ap (distOf K s) (sym p) ∙ sym (q .0))))
             current-at x m l (inr q) (no ne) = inr (q .0, getD-set-other (s .closed) u (rowOf (x .lane)) 1 1 ne ∙ q .1)
 
-        closed-low : e .cost ≡ distOf K s u → Open s u → ClosedLow (marked K u s) (L .size (e .cost))
+        closed-low : e .cost ≡ distOf K s u → Open s u → ClosedLow K L num rowOf n (marked K u s) (L .size (e .cost))
         unfolding marked
         closed-low ce o w lw = go (ℕ-discrete w u) (I .cover w lw)
           where
@@ -519,7 +235,7 @@ module _ {C : Type 0} (K : Costs C) (L : Laws K) (num rowOf : ℕ → ℕ) (edge
       -- a lane that is there and whose entry is not stale is closed in both forms
       record Closed : Type 0 where
         lane : u < n
-        matches : Matches (settled K out u s) (grownFrom f e rest)
+        matches : Fits (settled K out u s) (grownFrom f e rest)
         invariant : Inv (settled K out u s) (u ∷ order)
         was-open : Open s u
         was-least : leastNow s ≡ u
@@ -528,7 +244,7 @@ module _ {C : Type 0} (K : Costs C) (L : Laws K) (num rowOf : ℕ → ℕ) (edge
       -- a missing lane goes
       record Gone : Type 0 where
         is : grownFrom f e rest ≡ skipped K f rest
-        matches : Matches s (skipped K f rest)
+        matches : Fits s (skipped K f rest)
 
       close : (lu : u < n) → e .lane ≢ num goal → isStale K f e ≡ false → Closed
       unfolding settled marked
@@ -536,8 +252,8 @@ module _ {C : Type 0} (K : Costs C) (L : Laws K) (num rowOf : ℕ → ℕ) (edge
           let q = is-current lu t in
           let l = popped lu (q .0) (q .1) in
           let A =
-          push-all (edges (num u)) u (e .cost) (marked K u s) (skipped K f rest) (closed lu (q .0)) cost (R .costs u lu) (I .costs)
-          (I .dist-length) (I .prev-length) (closed-low lu (q .0) (q .1)) in
+          push-all K L num rowOf n N size few (edges (num u)) u (e .cost) (marked K u s) (skipped K f rest) (closed lu (q .0)) cost
+          (R .costs u lu) (I .costs) (I .dist-length) (I .prev-length) (closed-low lu (q .0) (q .1)) in
           let same : expanded K u (e .cost) (kept n rowOf (edges (num u))) (marked K u s) ≡ settled K out u s =
           ap₂ (λ (x : C) (es : List (Edge C)). expanded K u x es (marked K u s)) (q .0) (sym (R .rows u lu)) in
           let low : (v : ℕ) → v < n → Open s v → at s u ≤ at s v =
@@ -546,8 +262,8 @@ module _ {C : Type 0} (K : Costs C) (L : Laws K) (num rowOf : ℕ → ℕ) (edge
           record {
             lane = lu;
             matches =
-                subst (λ (x : ℕ). Matches (settled K out u s) (pushAll K x (e .cost) (edges x) (skipped K f rest))) (number lu)
-                (subst (λ (x : State C). Matches x (pushAll K (num u) (e .cost) (edges (num u)) (skipped K f rest))) same A);
+                subst (λ (x : ℕ). Fits (settled K out u s) (pushAll K x (e .cost) (edges x) (skipped K f rest))) (number lu)
+                (subst (λ (x : State C). Fits x (pushAll K (num u) (e .cost) (edges (num u)) (skipped K f rest))) same A);
             invariant =
                 turn-invariant K L out size n start goal few in-start G s order I u lu (q .1)
                 (subst (λ (x : C). L .size x < far) (q .0) (here lu .finite)) ng low;
@@ -574,7 +290,7 @@ module _ {C : Type 0} (K : Costs C) (L : Laws K) (num rowOf : ℕ → ℕ) (edge
           go true b = inr (close (ltb-true u n b) ne t)
           go false b = inl (gone (ltb-false u n b))
 
-      skips : isStale K f e ≡ true → Matches s (skipped K f rest)
+      skips : isStale K f e ≡ true → Fits s (skipped K f rest)
       skips t = dropped (λ lu. is-stale lu t)
 
       -- the goal is there
@@ -595,7 +311,8 @@ module _ {C : Type 0} (K : Costs C) (L : Laws K) (num rowOf : ℕ → ℕ) (edge
   unfolding run
   run-none k s e = rw (eq-eqb (leastNow s) size e)
 
-  run-goal : (k : ℕ) (s : State C) → leastNow s ≡ goal → found (rebuild size (s .prev) start goal (goal ∷ [])) (distOf K s goal) ≡ Run (suc k) s
+  run-goal : (k : ℕ) (s : State C) → leastNow s ≡ goal
+      → found (rebuild size (s .prev) start goal (goal ∷ [])) (distOf K s goal) ≡ Run (suc k) s
   unfolding run
   run-goal k s e = rw (ne-eqb (leastNow s) size (below-size (leastNow s) goal e in-goal), eq-eqb (leastNow s) goal e)
 
@@ -624,7 +341,7 @@ module _ {C : Type 0} (K : Costs C) (L : Laws K) (num rowOf : ℕ → ℕ) (edge
   abbrev RunsFrom : Frontier C → Result C → Type 0
   RunsFrom f r = Runs K cmp edges (num start) (num goal) f r
 
-  runs-same : {f : Frontier C} {r : Result C} → RunsFrom f r → (s : State C) (order : List ℕ) (k : ℕ) → Inv s order → Matches s f
+  runs-same : {f : Frontier C} {r : Result C} → RunsFrom f r → (s : State C) (order : List ℕ) (k : ℕ) → Inv s order → Fits s f
       → zeros (s .closed) ≤ k
       → r ≡ Answer (suc k) s
   runs-same {f} (empty z) s order k I M h = ap (numbered num) (run-none k s (none-open s f order I M z))
@@ -636,7 +353,7 @@ module _ {C : Type 0} (K : Costs C) (L : Laws K) (num rowOf : ℕ → ℕ) (edge
       ∙ ap (numbered num) (run-goal k s (popped s f order I M e rest P lu (q .0) (q .1) ∙ gu))
   runs-same {f} (stale {e = e} {rest = rest} P ne t Q) s order k I M h = runs-same Q s order k I (skips s f order I M e rest P t) h
   runs-same {f} (fresh {e = e} {rest = rest} {r = r} P ne t Q) s order k I M h =
-      ⊎-elim (λ g. runs-same Q s order k I (subst (Matches s) (sym (g .is)) (g .matches)) h)
+      ⊎-elim (λ g. runs-same Q s order k I (subst (Fits s) (sym (g .is)) (g .matches)) h)
       (λ c. turn k s (rowOf (e .lane)) r (c .was-least) (c .lane) (c .was-open) (c .no-goal) h
       (λ k′ h′. runs-same Q (settled K out (rowOf (e .lane)) s) (rowOf (e .lane) ∷ order) k′ (c .invariant) (c .matches) h′))
       (expands s f order I M e rest P ne t)
@@ -647,7 +364,7 @@ module _ {C : Type 0} (K : Costs C) (L : Laws K) (num rowOf : ℕ → ℕ) (edge
 
   abbrev AllEnd : ℕ → ℕ → Type 0
   AllEnd k j =
-      (s : State C) (f : Frontier C) (order : List ℕ) → Inv s order → Matches s f → zeros (s .closed) ≤ k → length (f .heap) ≤ j
+      (s : State C) (f : Frontier C) (order : List ℕ) → Inv s order → Fits s f → zeros (s .closed) ≤ k → length (f .heap) ≤ j
       → EndsFrom f
 
   -- from fewer open lanes, or from as many and a shorter heap
@@ -657,7 +374,7 @@ module _ {C : Type 0} (K : Costs C) (L : Laws K) (num rowOf : ℕ → ℕ) (edge
       (λ e rest P ne t. ⊎-elim (λ x. subst EndsFrom (sym (x .is)) (less e rest P (x .matches))) (λ c. lower e rest P c)
       (expands s f order I M e rest P ne t))
     where
-      less : (e : Entry C) (rest : List (Entry C)) → Pops cmp (f .heap) e rest → Matches s (skipped K f rest) → EndsFrom (skipped K f rest)
+      less : (e : Entry C) (rest : List (Entry C)) → Pops cmp (f .heap) e rest → Fits s (skipped K f rest) → EndsFrom (skipped K f rest)
       less e rest P M′ = go j refl
         where
           l : length (f .heap) ≡ suc (length rest)
@@ -677,8 +394,8 @@ module _ {C : Type 0} (K : Costs C) (L : Laws K) (num rowOf : ℕ → ℕ) (edge
           go : (i : ℕ) → k ≡ i → EndsFrom (grownFrom f e rest)
           go zero p = absurd (none-left s u (c .was-open) (omega arith))
           go (suc i) p =
-              closing i (length ((grownFrom f e rest) .heap)) p (settled K out u s) (grownFrom f e rest) (u ∷ order) (c .invariant) (c .matches)
-              (fewer s u i (c .was-open) (omega arith)) (le-refl _)
+              closing i (length ((grownFrom f e rest) .heap)) p (settled K out u s) (grownFrom f e rest) (u ∷ order) (c .invariant)
+              (c .matches) (fewer s u i (c .was-open) (omega arith)) (le-refl _)
 
   no-suc : (a : ℕ) → 0 ≡ suc a → ⊥
   no-suc a p = omega arith
@@ -700,7 +417,7 @@ module _ {C : Type 0} (K : Costs C) (L : Laws K) (num rowOf : ℕ → ℕ) (edge
     runs : RunsFrom f result
 
   abbrev Onward : Frontier C → Type 0
-  Onward f = (s : State C) (order : List ℕ) → Inv s order → Matches s f → SomeRun f
+  Onward f = (s : State C) (order : List ℕ) → Inv s order → Fits s f → SomeRun f
 
   module _ (f : Frontier C)
       (skip : (e : Entry C) (rest : List (Entry C)) → Pops cmp (f .heap) e rest → e .lane ≢ num goal → isStale K f e ≡ true
@@ -724,7 +441,7 @@ module _ {C : Type 0} (K : Costs C) (L : Laws K) (num rowOf : ℕ → ℕ) (edge
 
             onward : e .lane ≢ num goal → isStale K f e ≡ false → SomeRun (grownFrom f e rest)
             onward ne t =
-                ⊎-elim (λ g. more e rest P ne t s order I (subst (Matches s) (sym (g .is)) (g .matches)))
+                ⊎-elim (λ g. more e rest P ne t s order I (subst (Fits s) (sym (g .is)) (g .matches)))
                 (λ c. more e rest P ne t (settled K out (rowOf (e .lane)) s) (rowOf (e .lane) ∷ order) (c .invariant) (c .matches))
                 (expands s f order I M e rest P ne t)
 
@@ -749,7 +466,7 @@ module _ {C : Type 0} (K : Costs C) (L : Laws K) (num rowOf : ℕ → ℕ) (edge
   abbrev blankFront : Frontier C
   blankFront = front K (λ x. none) (λ x. none) []
 
-  none-matches : Matches (blank K size) blankFront
+  none-matches : Fits (blank K size) blankFront
   unfolding blank
   none-matches =
       record {
@@ -762,7 +479,8 @@ module _ {C : Type 0} (K : Costs C) (L : Laws K) (num rowOf : ℕ → ℕ) (edge
       }
     where
       far-off : (v : ℕ) → L .size (getD (replicate size (K .infinite)) v (K .infinite)) < far → ⊥
-      far-off v r = no (L .size (getD (replicate size (K .infinite)) v (K .infinite))) far (ap (L .size) (replicate-all size v (K .infinite))) r
+      far-off v r =
+          no (L .size (getD (replicate size (K .infinite)) v (K .infinite))) far (ap (L .size) (replicate-all size v (K .infinite))) r
         where
           no : (a b : ℕ) → a ≡ b → a < b → ⊥
           no a b x y = omega arith
@@ -773,11 +491,12 @@ module _ {C : Type 0} (K : Costs C) (L : Laws K) (num rowOf : ℕ → ℕ) (edge
   abbrev begins : Frontier C
   begins = begun K cmp edges (num start) (num goal)
 
-  first-matches : Matches first-state begins
+  first-matches : Fits first-state begins
   unfolding blank first-state
   first-matches =
-      subst (λ (es : List (Edge C)). Matches (expanded K start (K .none) es (blank K size)) begins) (sym (R .rows start in-start))
-      (push-all (edges (num start)) start (K .none) (blank K size) blankFront none-matches (L .none-cost) (R .costs start in-start)
+      subst (λ (es : List (Edge C)). Fits (expanded K start (K .none) es (blank K size)) begins) (sym (R .rows start in-start))
+      (push-all K L num rowOf n N size few (edges (num start)) start (K .none) (blank K size) blankFront none-matches (L .none-cost)
+      (R .costs start in-start)
       (λ w. subst (L .Cost) (sym (replicate-all size w (K .infinite))) (L .infinite-cost)) (length-replicate size (K .infinite))
       (length-replicate size 0)
       (λ w lw. inl (getD-replicate size w 0 1 (omega arith))))

@@ -1,6 +1,7 @@
 -- What the search finds over tables that hold a plan's lanes and links is optimal among all chains of link records.
 use mathlib.Core.Bool.{Bool, cond, false, true, true≢false, _&&_, _||_}
-use mathlib.Core.List.{List, List·Memᴰ, List·Memᴰ·append-cases, Memᴰ·append-left, Memᴰ·append-right, Memᴰ·of-map, append-nil, map, [], _++_, _∷_}
+use mathlib.Core.List.{List, List·Memᴰ, List·Memᴰ·append-cases, Memᴰ·append-left, Memᴰ·append-right, Memᴰ·of-map, append-nil, map, []}
+use mathlib.Core.List.{_++_, _∷_}
 use mathlib.Core.Logic.{inl, inr, ⊎-elim, _⊎_}
 use mathlib.Core.Path.{ap, ap₂, refl, subst, sym, _∙_, _≡_}
 use Prim.Native.Nat.{suc, ℕ, _*_, _+_, _^_, _<_, _≤_}
@@ -24,8 +25,9 @@ use Rattle.search.specs.Search.{Edge, Result, found, refused}
 use Rattle.optimality.specs.Chains.{Optimal, addSteps, chainCost, hasLink, isChain, isStep, laneLength, leadsTo, stepCost}
 use Rattle.optimality.specs.Correct.{search-correct}
 use Rattle.optimality.specs.Heap.{Gives, begun, compareEntries, edgesFrom, numbered, toward}
+use Rattle.optimality.specs.HeapMatch.{Numbering, Restricts, kept}
 use Rattle.optimality.specs.HeapOrder.{entries-ordered}
-use Rattle.optimality.specs.HeapSame.{Numbering, Restricts, heap-gives, kept}
+use Rattle.optimality.specs.HeapSame.{heap-gives}
 use Rattle.optimality.specs.Invariant.{Linking}
 use Rattle.optimality.specs.Laws.{f32-laws}
 use Rattle.optimality.specs.Rows.{ChainsOk, Tabled, cheapest-steps, edges-are, numberAt, or-right, row, row-below, row-link}
@@ -275,7 +277,8 @@ module _ (numbers : List ℕ) (lengths : List Float) (links : List Link) (lanes 
       → edgesAt (laneNumber lanes u) ≡ map (toward (len u)) (linked links (N u) 0) ++ map (toward laneChange) (linked links (N u) 2)
   unfolding edgesFrom
   edges-there u l =
-      rw (T .number u l, lt-ltb (R (N u)) n (subst (λ (k : ℕ). k < n) (sym (row-number numbers (A .few) (A .distinct) u l)) l), lane-length u l)
+      let there : R (N u) < n = subst (λ (k : ℕ). k < n) (sym (row-number numbers (A .few) (A .distinct) u l)) l in
+      rw (T .number u l, lt-ltb (R (N u)) n there, lane-length u l)
 
   edge-cost : (u : ℕ) → u < n → (e : Edge Float) → List·Memᴰ e (edgesAt (laneNumber lanes u)) → LinkCost (e .cost)
   edge-cost u l e m =
@@ -425,6 +428,5 @@ module _ (numbers : List ℕ) (lengths : List Float) (links : List Link) (lanes 
         (begun f32Costs compareEntries edgesAt (laneNumber lanes start) (laneNumber lanes goal))
         (numbered (laneNumber lanes) (searchedIn lanes G start goal))
     heap-chain =
-        heap-gives f32Costs f32-laws (laneNumber lanes) R edgesAt (out G) 256 (G .count) start goal (rw (T .count) (A .few)) (rw (T .count) ls)
-        (rw (T .count) lg)
-        numbering restricts linking compareEntries entries-ordered
+        heap-gives f32Costs f32-laws (laneNumber lanes) R edgesAt (out G) 256 (G .count) start goal (rw (T .count) (A .few))
+        (rw (T .count) ls) (rw (T .count) lg) numbering restricts linking compareEntries entries-ordered

@@ -15,7 +15,7 @@ use Rattle.plan_format.specs.Plan.{Plan, indexOf, numberOf}
 use Rattle.plan_format.specs.Reading.{sum}
 use Rattle.plan_format.specs.Tables.{linkCount, linked, planRows}
 use Rattle.rows.specs.Rows.{firstLink, firstNeighbour, laneNumber, leadsTo, neighbours, predecessors, successors}
-use Rattle.search.specs.LaneGraph.{LaneGraph, Readable, f32Costs, laneGraph, out, searchedIn}
+use Rattle.search.specs.LaneGraph.{LaneGraph, Readable, f32Costs, laneGraph, searchedIn}
 use Rattle.search.specs.Search.{Result, found, refused}
 use Rattle.tables.specs.LaneTables.{noLane}
 use Rattle.tables.specs.Lines.{cost, number-is}
