@@ -3,4 +3,5 @@ pub mod Route
 pub mod PathRows
 pub mod Steps
 pub mod InPlan
+pub mod Changes
 pub mod Cases
