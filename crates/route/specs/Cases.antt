@@ -1,8 +1,10 @@
--- Document 01's junction cases of a route, and the printed one, by computation over small plans.
+-- Worked cases of a route, by computation over small plans: a lane change, lanes driven against their centre lines, lists that are too short.
+-- The Rust gives the same points: the oracle over the same plans. Document 01's own cases stand in crate cases, and as printed in crate replies.
 use mathlib.Core.List.{List, [], _∷_}
 use mathlib.Core.Path.{_≡_, refl}
 use Prim.Native.Nat.{ℕ}
-use lib.Ieee.{Float, add, binary32, div, eq, isNan, le, lt, mul, ofBits, ofInt, sub, toUnsigned}
+use lib.Ieee.{Float, add, binary32, div, eq, isNan, le, lt, mul, neg, ofBits, ofInt, sub, toUnsigned}
+use lib.IntN.{pos}
 use Rattle.coords.specs.Coords.{crossOf, lengthOf, normalizeOr}
 use Rattle.coords.specs.declared.Point.{Point}
 use Rattle.float.specs.Root.{sqrtOf}
@@ -21,123 +23,120 @@ use Rattle.sampling.specs.Kept.{firstOf, flat, pushed}
 use Rattle.sampling.specs.Sampling.{changesOff, exitAt, exitFor, isAhead, isForward, leads, nearerEnd, sampleFrom, sampleLanes, sampleRoute}
 use Rattle.sampling.specs.Sampling.{sampleSpan, stepsOf, toward, travelEnd}
 use Rattle.search.specs.LaneGraph.{edges, out}
-use Rattle.search.specs.Search.{blank, expanded, found, leastOpen, marked, rebuild, relaxed, run, searched, settled}
+use Rattle.search.specs.Search.{blank, expanded, leastOpen, marked, rebuild, relaxed, run, searched, settled}
 use Rattle.tables.specs.LaneTables.{laneRows}
-use Rattle.route.specs.Route.{between, fitted, followed, lengthsTo, pathBy, pathOf, refusal, routeIn, routed, suffices, tablesOf}
+use Rattle.route.specs.Route.{Routed, between, fitted, followed, lengthsTo, pathBy, refusal, routeIn, routed, suffices, tablesOf}
 
-abbrev f : ℕ → Float
-f n = ofBits binary32 n
+-- ---- the plans
 
--- 2, 4, 6, 8, 10, 12, 16, 30 and 32
-abbrev two : Float
-two = f 0x40000000
+abbrev m : ℕ → Float
+m n = ofInt binary32 (pos n)
 
-abbrev four : Float
-four = f 0x40800000
+-- (x,y,0), and on the x axis
+abbrev point : Float → Float → Point
+point x y = record { x = x; y = y; z = m 0 }
 
-abbrev six : Float
-six = f 0x40c00000
+abbrev at : ℕ → Point
+at x = point (m x) (m 0)
 
-abbrev eight : Float
-eight = f 0x41000000
+-- (-x,0,0), and (x,4,0)
+abbrev west : ℕ → Point
+west x = point (neg (m x)) (m 0)
 
-abbrev ten : Float
-ten = f 0x41200000
+abbrev beside : ℕ → Point
+beside x = point (m x) (m 4)
 
-abbrev twelve : Float
-twelve = f 0x41400000
+abbrev xyz : List Point → List Float
+xyz [] = []
+xyz (p ∷ ps) = p .x ∷ p .y ∷ p .z ∷ xyz ps
 
-abbrev sixteen : Float
-sixteen = f 0x41800000
+-- a Driving lane; directions are 0 Forward, 1 Backward, 2 Both
+abbrev lane : ℕ → ℕ → Point → Point → Lane
+lane direction n a b =
+    record { number = n; type = 1; direction = direction; ends = 0; count = 2; points = xyz (a ∷ b ∷ []); tangents = [] }
 
-abbrev thirty : Float
-thirty = f 0x41f00000
-
-abbrev thirty-two : Float
-thirty-two = f 0x42000000
-
-abbrev on : Float → Point
-on x = record { x = x; y = f 0; z = f 0 }
-
--- a lane along the x axis, Driving, Forward
-abbrev lane : ℕ → Float → Float → Lane
-lane n a b =
-    record { number = n; type = 1; direction = 0; ends = 0; count = 2; points = a ∷ f 0 ∷ f 0 ∷ b ∷ f 0 ∷ f 0 ∷ []; tangents = [] }
-
+-- roles are 0 successor, 2 neighbour
 abbrev link : ℕ → ℕ → ℕ → Link
 link from role to = record { from = from; role = role; to = to }
 
 abbrev plan : List Lane → List Link → Plan
 plan ls ks = record { lanes = ls; links = ks; sections = []; places = []; queries = [] }
 
--- costs 8 and 8 to lanes 2 and 3, both leading to 4: chain 1, 3, 4 (rows 0, 2, 3)
-abbrev fork : Plan
-fork =
-    plan (lane 1 (f 0) eight ∷ lane 2 (f 0) eight ∷ lane 3 (f 0) eight ∷ lane 4 (f 0) eight ∷ [])
-    (link 1 0 2 ∷ link 1 0 3 ∷ link 2 0 4 ∷ link 3 0 4 ∷ [])
+-- two parallel lanes of 16 m; two lanes end to end, on which one drives west; lane 1 of both directions, with a lane on at each end
+abbrev parallel : List Link → Plan
+parallel = plan (lane 0 1 (at 0) (at 16) ∷ lane 0 2 (beside 0) (beside 16) ∷ [])
 
-larger-number : pathOf (tablesOf fork) 4 0 (f 0) 3 (f 0) ≡ found (0 ∷ 2 ∷ 3 ∷ []) sixteen
-unfolding tablesOf planRows laneRows rows rowsFrom linked indexOf lengthsTo pathBy suffices isAhead searched run rebuild leastOpen relaxed
-    expanded settled marked blank edges out cumulativeOf arcAt pointAt lengthOf sqrtOf add sub mul lt le ofBits
-larger-number = refl
+abbrev backward : Plan
+backward = plan (lane 1 1 (at 0) (at 8) ∷ lane 1 2 (west 8) (at 0) ∷ []) (link 1 0 2 ∷ [])
 
--- a 32 m lane with the goal as successor and neighbour: cost 30
-abbrev either : Plan
-either = plan (lane 1 (f 0) thirty-two ∷ lane 2 (f 0) eight ∷ []) (link 1 0 2 ∷ link 1 2 2 ∷ [])
+abbrev twoWay : Plan
+twoWay = plan (lane 2 1 (at 0) (at 8) ∷ lane 2 2 (west 8) (at 0) ∷ lane 2 3 (at 8) (at 16) ∷ []) (link 1 0 2 ∷ link 1 0 3 ∷ [])
 
-cheaper-link : pathOf (tablesOf either) 2 0 (f 0) 1 (f 0) ≡ found (0 ∷ 1 ∷ []) thirty
-unfolding tablesOf planRows laneRows rows rowsFrom linked indexOf lengthsTo pathBy suffices isAhead searched run rebuild leastOpen relaxed
-    expanded settled marked blank edges out cumulativeOf arcAt pointAt lengthOf sqrtOf add sub mul lt le ofBits
-cheaper-link = refl
-
--- a lane with itself as successor, s 6 to s 2: chain 1, 1, points 6 and 8 only
-closed : routeIn (plan (lane 1 (f 0) eight ∷ []) (link 1 0 1 ∷ [])) (on six) (on two) 257 12288
-    ≡ record { number = 0; chain = 1 ∷ 1 ∷ []; points = six ∷ f 0 ∷ f 0 ∷ eight ∷ f 0 ∷ f 0 ∷ []; length = eight }
-unfolding routeIn fitted routed between followed pathBy suffices tablesOf planRows laneRows rows rowsFrom linked indexOf lengthsTo isAhead
-    searched run rebuild leastOpen relaxed expanded settled marked blank edges out sampleRoute sampleLanes sampleSpan sampleFrom stepsOf exitFor
-    exitAt travelEnd isForward nearerEnd changesOff leads toward pushed flat nearestLane lanesAfter cumulativeOf arcAt pointAt pointAlong locateOf
-    segmentOf localT leading projectSegments projectTo nearerAt fractionAlong hitAlong leftNormal lengthOf normalizeOr crossOf absOf signumOf
-    ceilOf add sub mul div lt le eq ofBits toUnsigned ofInt isNan
-closed = refl
-
--- without that link: 11
-not-closed : routeIn (plan (lane 1 (f 0) eight ∷ []) []) (on six) (on two) 257 12288 ≡ refusal 11
-unfolding routeIn fitted routed between followed pathBy suffices tablesOf planRows laneRows rows rowsFrom linked indexOf lengthsTo isAhead
-    searched run rebuild leastOpen relaxed expanded settled marked blank edges out nearestLane lanesAfter cumulativeOf arcAt pointAt
-    projectSegments projectTo nearerAt fractionAlong hitAlong leftNormal lengthOf normalizeOr crossOf
-    add sub mul div lt le eq ofBits toUnsigned ofInt isNan
-not-closed = refl
-
--- the printed case, and the same in a list of points that is one entry short: 14
+-- document 01's printed plan
 abbrev straight : Plan
-straight = plan (lane 1 (f 0) eight ∷ lane 2 eight sixteen ∷ []) (link 1 0 2 ∷ [])
+straight = plan (lane 0 1 (at 0) (at 8) ∷ lane 0 2 (at 8) (at 16) ∷ []) (link 1 0 2 ∷ [])
 
-printed : routeIn straight (on two) (on twelve) 2 18
-    ≡ record {
-      number = 0;
-      chain = 1 ∷ 2 ∷ [];
-      points = two ∷ f 0 ∷ f 0 ∷ four ∷ f 0 ∷ f 0 ∷ six ∷ f 0 ∷ f 0 ∷ eight ∷ f 0 ∷ f 0 ∷ ten ∷ f 0 ∷ f 0 ∷ twelve ∷ f 0 ∷ f 0 ∷ [];
-      length = eight;
-    }
-unfolding routeIn fitted routed between followed pathBy suffices tablesOf planRows laneRows rows rowsFrom linked indexOf lengthsTo isAhead
-    searched run rebuild leastOpen relaxed expanded settled marked blank edges out sampleRoute sampleLanes sampleSpan sampleFrom stepsOf exitFor
-    exitAt travelEnd isForward nearerEnd changesOff leads toward pushed flat nearestLane lanesAfter cumulativeOf arcAt pointAt pointAlong locateOf
-    segmentOf localT leading projectSegments projectTo nearerAt fractionAlong hitAlong leftNormal lengthOf normalizeOr crossOf absOf signumOf
-    ceilOf add sub mul div lt le eq ofBits toUnsigned ofInt isNan
-printed = refl
+-- ---- the answers
 
--- of its points a pass with room for two keeps three
-one-past : firstOf 3 (sampleRoute (tablesOf straight) (0 ∷ 1 ∷ []) two four) ≡ on six ∷ on four ∷ on two ∷ []
+unfoldable sampled : Plan → List ℕ → Float → Float → List Point
 unfolding tablesOf planRows laneRows rows rowsFrom linked indexOf isAhead sampleRoute sampleLanes sampleSpan sampleFrom stepsOf exitFor exitAt
-    travelEnd isForward nearerEnd changesOff leads toward pushed firstOf cumulativeOf arcAt pointAt pointAlong locateOf segmentOf localT leading
-    projectSegments projectTo nearerAt fractionAlong hitAlong leftNormal lengthOf normalizeOr crossOf absOf signumOf ceilOf add sub mul div lt le
-    eq ofBits toUnsigned ofInt isNan sqrtOf
-one-past = refl
+    travelEnd isForward nearerEnd changesOff leads toward pushed cumulativeOf arcAt pointAt pointAlong locateOf segmentOf localT leading
+    projectSegments projectTo nearerAt fractionAlong hitAlong leftNormal lengthOf normalizeOr crossOf absOf signumOf ceilOf sqrtOf add sub mul div
+    lt le eq ofBits toUnsigned ofInt isNan
+sampled p path s t = sampleRoute (tablesOf p) path s t
 
-one-short : routeIn straight (on two) (on twelve) 2 17 ≡ refusal 14
-unfolding routeIn fitted routed between followed pathBy suffices tablesOf planRows laneRows rows rowsFrom linked indexOf lengthsTo isAhead
-    searched run rebuild leastOpen relaxed expanded settled marked blank edges out sampleRoute sampleLanes sampleSpan sampleFrom stepsOf exitFor
-    exitAt travelEnd isForward nearerEnd changesOff leads toward pushed flat nearestLane lanesAfter cumulativeOf arcAt pointAt pointAlong locateOf
-    segmentOf localT leading projectSegments projectTo nearerAt fractionAlong hitAlong leftNormal lengthOf normalizeOr crossOf absOf signumOf
-    ceilOf add sub mul div lt le eq ofBits toUnsigned ofInt isNan
+unfoldable route : Plan → Point → Point → ℕ → ℕ → Routed
+unfolding sampled routeIn fitted routed between followed pathBy suffices lengthsTo searched run rebuild leastOpen relaxed expanded settled marked
+    blank edges out flat nearestLane lanesAfter
+route p from to chainRoom stopsRoom = routeIn p from to chainRoom stopsRoom
+
+-- a route over two lanes, and what it costs
+abbrev over : ℕ → List Point → Float → Routed
+over n ps cost = record { number = 0; chain = 1 ∷ n ∷ []; points = xyz ps; length = cost }
+
+-- ---- a lane change
+
+-- 10 m on, then beside; where the lane ends sooner, at its end
+change : route (parallel (link 1 2 2 ∷ [])) (at 2) (beside 16) 257 12288
+    ≡ over 2 (at 2 ∷ at 4 ∷ at 6 ∷ at 8 ∷ at 10 ∷ at 12 ∷ beside 12 ∷ beside 14 ∷ beside 16 ∷ []) (m 30)
+unfolding route
+change = refl
+
+change-at-end : route (parallel (link 1 2 2 ∷ [])) (at 10) (beside 16) 257 12288
+    ≡ over 2 (at 10 ∷ at 12 ∷ at 14 ∷ at 16 ∷ beside 16 ∷ []) (m 30)
+unfolding route
+change-at-end = refl
+
+-- a neighbour that is a successor too: the lane is driven to its end
+no-change : route (parallel (link 1 2 2 ∷ link 1 0 2 ∷ [])) (at 2) (beside 16) 257 12288
+    ≡ over 2 (at 2 ∷ at 4 ∷ at 6 ∷ at 8 ∷ at 10 ∷ at 12 ∷ at 14 ∷ at 16 ∷ beside 16 ∷ []) (m 16)
+unfolding route
+no-change = refl
+
+-- ---- against the centre line
+
+-- a Backward lane
+against : route backward (at 6) (west 4) 257 12288 ≡ over 2 (at 6 ∷ at 4 ∷ at 2 ∷ at 0 ∷ west 2 ∷ west 4 ∷ []) (m 8)
+unfolding route neg
+against = refl
+
+-- a Both lane is driven toward the next one
+both-down : route twoWay (at 6) (west 4) 257 12288 ≡ over 2 (at 6 ∷ at 4 ∷ at 2 ∷ at 0 ∷ west 2 ∷ west 4 ∷ []) (m 8)
+unfolding route neg
+both-down = refl
+
+both-up : route twoWay (at 6) (at 12) 257 12288 ≡ over 3 (at 6 ∷ at 8 ∷ at 10 ∷ at 12 ∷ []) (m 8)
+unfolding route neg
+both-up = refl
+
+-- ---- lists that are too short
+
+-- the printed route has six points: in a list one entry short of them, 14
+one-short : route straight (at 2) (at 12) 2 17 ≡ refusal 14
+unfolding route
 one-short = refl
+
+-- a pass with room for two points keeps three
+one-past : firstOf 3 (sampled straight (0 ∷ 1 ∷ []) (m 2) (m 4)) ≡ at 6 ∷ at 4 ∷ at 2 ∷ []
+unfolding sampled firstOf
+one-past = refl
