@@ -18,7 +18,7 @@ use Rattle.geometry.specs.Locate.{micro, pointAlong}
 use Rattle.geometry.specs.Over.{over, over-three}
 use Rattle.rows.specs.Rows.{firstNeighbour, leadsTo, neighbours}
 use Rattle.sampling.specs.Kept.{firstOf, flat, isFresh, keptOf, laid, pushed, pushing, putAt, putting, withPoint}
-use Rattle.sampling.specs.Sampling.{RouteTables, entryAfter, entryFirst, exitAt, exitFor, leads, placeIn}
+use Rattle.sampling.specs.Sampling.{RouteTables, entryAfter, entryFirst, exitAt, exitFor, leads, pointIn}
 use Rattle.sampling.specs.Sampling.{sampleAt, sampleFrom, sampleLanes, sampleRoute, sampleSegment, sampleSpan}
 use Rattle.sampling.specs.Sampling.{stepsOf, tiny}
 use Rattle.sampling.specs.declared.Kept.{Kept}
@@ -188,36 +188,36 @@ pushed-few (q ∷ qs) p = go (lt micro (distanceSquaredTo q p))
     go true = omega arith
     go false = omega arith
 
-module _ (place : Float → Point) (entry span : Float) (steps : ℕ) where
-  from-front : (n k : ℕ) (qs : List Point) → Front qs (sampleFrom place entry span steps n k qs)
+module _ (point : Float → Point) (entry span : Float) (steps : ℕ) where
+  from-front : (n k : ℕ) (qs : List Point) → Front qs (sampleFrom point entry span steps n k qs)
   unfolding sampleFrom
   from-front zero k qs = record { more = []; split = refl }
   from-front (suc n) k qs =
-      let p = place (sampleAt entry span steps k) in
+      let p = point (sampleAt entry span steps k) in
       front-on qs (pushed qs p) _ (pushed-front qs p) (from-front n (k + 1) (pushed qs p))
 
-  pub from-last : (k : ℕ) (qs : List Point) → sampleFrom place entry span steps 1 k qs ≡ pushed qs (place (sampleAt entry span steps k))
+  pub from-last : (k : ℕ) (qs : List Point) → sampleFrom point entry span steps 1 k qs ≡ pushed qs (point (sampleAt entry span steps k))
   unfolding sampleFrom
   from-last k qs = refl
 
   pub from-next : (n k : ℕ) (qs : List Point)
-      → sampleFrom place entry span steps (suc n) k qs ≡ sampleFrom place entry span steps n (k + 1) (pushed qs (place (sampleAt entry span steps k)))
+      → sampleFrom point entry span steps (suc n) k qs ≡ sampleFrom point entry span steps n (k + 1) (pushed qs (point (sampleAt entry span steps k)))
   unfolding sampleFrom
   from-next n k qs = refl
 
 -- where the loop stands before sample k: the points so far, of which the samples left make all
-pub record Sampling (place : Float → Point) (entry span : Float) (steps k : ℕ) (all : List Point) (old : List Float) (r : Kept)
+pub record Sampling (point : Float → Point) (entry span : Float) (steps k : ℕ) (all : List Point) (old : List Float) (r : Kept)
     (out : List Float) : Type 0 where
   pub points : List Point
   pub kept : r ≡ keptOf points
   pub written : out ≡ laid points old
-  pub rest : sampleFrom place entry span steps (suc (steps - k)) k points ≡ all
+  pub rest : sampleFrom point entry span steps (suc (steps - k)) k points ≡ all
 
-module _ (place : Float → Point) (entry span : Float) (steps k : ℕ) (all : List Point) (old : List Float) (r : Kept) (out : List Float)
-    (r′ : Kept) (out′ : List Float) (S : Sampling place entry span steps k all old r out)
-    (e : r′ ≡ pushing r (place (sampleAt entry span steps k))) (f : out′ ≡ putting r (place (sampleAt entry span steps k)) out) where
+module _ (point : Float → Point) (entry span : Float) (steps k : ℕ) (all : List Point) (old : List Float) (r : Kept) (out : List Float)
+    (r′ : Kept) (out′ : List Float) (S : Sampling point entry span steps k all old r out)
+    (e : r′ ≡ pushing r (point (sampleAt entry span steps k))) (f : out′ ≡ putting r (point (sampleAt entry span steps k)) out) where
   p : Point
-  p = place (sampleAt entry span steps k)
+  p = point (sampleAt entry span steps k)
 
   kept-next : r′ ≡ keptOf (pushed (S .points) p)
   unfolding p
@@ -229,7 +229,7 @@ module _ (place : Float → Point) (entry span : Float) (steps k : ℕ) (all : L
       f ∙ ap₂ (λ (q : Kept) (o : List Float). putting q p o) (S .kept) (S .written) ∙ pushed-laid (S .points) p old
 
   -- one more sample
-  pub sampling-next : k < steps → Sampling place entry span steps (k + 1) all old r′ out′
+  pub sampling-next : k < steps → Sampling point entry span steps (k + 1) all old r′ out′
   unfolding p
   sampling-next h =
       let n : steps - k ≡ suc (steps - (k + 1)) = omega arith in
@@ -237,7 +237,7 @@ module _ (place : Float → Point) (entry span : Float) (steps k : ℕ) (all : L
         points = pushed (S .points) p;
         kept = kept-next;
         written = written-next;
-        rest = rw n at (sym (from-next place entry span steps (steps - k) k (S .points)) ∙ S .rest);
+        rest = rw n at (sym (from-next point entry span steps (steps - k) k (S .points)) ∙ S .rest);
       }
 
   -- one more than there is room for
@@ -247,54 +247,54 @@ module _ (place : Float → Point) (entry span : Float) (steps k : ℕ) (all : L
       let c = ap (λ (q : Kept). q .count) (S .kept) in
       let n = ap (λ (q : Kept). q .count) kept-next in
       let l = pushed-few (S .points) p in
-      let same = sym (from-next place entry span steps (steps - k) k (S .points)) ∙ S .rest in
-      let F = subst (λ (ps : List Point). Front (pushed (S .points) p) ps) same (from-front place entry span steps (steps - k) (k + 1) _) in
+      let same = sym (from-next point entry span steps (steps - k) k (S .points)) ∙ S .rest in
+      let F = subst (λ (ps : List Point). Front (pushed (S .points) p) ps) same (from-front point entry span steps (steps - k) (k + 1) _) in
       sampled-front room (pushed (S .points) p) all old r′ out′ kept-next written-next (omega arith) F (omega arith)
 
 -- the last sample
-pub sampling-ends : (place : Float → Point) (entry span : Float) (steps k : ℕ) (all : List Point) (old : List Float) (r : Kept)
-    (out : List Float) (r′ : Kept) (out′ : List Float) → Sampling place entry span steps k all old r out → k ≡ steps
-    → r′ ≡ pushing r (place (sampleAt entry span steps steps)) → out′ ≡ putting r (place (sampleAt entry span steps steps)) out
+pub sampling-ends : (point : Float → Point) (entry span : Float) (steps k : ℕ) (all : List Point) (old : List Float) (r : Kept)
+    (out : List Float) (r′ : Kept) (out′ : List Float) → Sampling point entry span steps k all old r out → k ≡ steps
+    → r′ ≡ pushing r (point (sampleAt entry span steps steps)) → out′ ≡ putting r (point (sampleAt entry span steps steps)) out
     → (room : ℕ) → r .count ≤ room → Sampled room all old r′ out′
-sampling-ends place entry span steps k all old r out r′ out′ S h e f room few =
-    let p = place (sampleAt entry span steps steps) in
+sampling-ends point entry span steps k all old r out r′ out′ S h e f room few =
+    let p = point (sampleAt entry span steps steps) in
     let n : suc (steps - k) ≡ 1 = omega arith in
-    let same : sampleFrom place entry span steps 1 steps (S .points) ≡ all
-    = ap₂ (λ (m j : ℕ). sampleFrom place entry span steps m j (S .points)) (sym n) (sym h) ∙ S .rest in
+    let same : sampleFrom point entry span steps 1 steps (S .points) ≡ all
+    = ap₂ (λ (m j : ℕ). sampleFrom point entry span steps m j (S .points)) (sym n) (sym h) ∙ S .rest in
     let c = ap (λ (q : Kept). q .count) (S .kept) in
     let l = pushed-few (S .points) p in
     sampled-all room (pushed (S .points) p) all old r′ out′ (e ∙ ap (λ (q : Kept). pushing q p) (S .kept) ∙ pushed-kept (S .points) p)
     (f ∙ ap₂ (λ (q : Kept) (o : List Float). putting q p o) (S .kept) (S .written) ∙ pushed-laid (S .points) p old) (omega arith)
-    (sym (from-last place entry span steps steps (S .points)) ∙ same)
+    (sym (from-last point entry span steps steps (S .points)) ∙ same)
 
 -- before the first sample
-pub sampling-starts : (place : Float → Point) (entry span : Float) (steps : ℕ) (qs : List Point) (old : List Float) (r : Kept)
+pub sampling-starts : (point : Float → Point) (entry span : Float) (steps : ℕ) (qs : List Point) (old : List Float) (r : Kept)
     (out : List Float) → r ≡ keptOf qs → out ≡ laid qs old
-    → Sampling place entry span steps 0 (sampleFrom place entry span steps (steps + 1) 0 qs) old r out
-sampling-starts place entry span steps qs old r out e f =
+    → Sampling point entry span steps 0 (sampleFrom point entry span steps (steps + 1) 0 qs) old r out
+sampling-starts point entry span steps qs old r out e f =
     let n : suc (steps - 0) ≡ steps + 1 = omega arith in
-    record { points = qs; kept = e; written = f; rest = ap (λ (m : ℕ). sampleFrom place entry span steps m 0 qs) n }
+    record { points = qs; kept = e; written = f; rest = ap (λ (m : ℕ). sampleFrom point entry span steps m 0 qs) n }
 
 -- what the test of the span decides; a is its size
-module _ (place : Float → Point) (entry exit a : Float) (e : a ≡ absOf (sub binary32 exit entry)) (qs : List Point) where
+module _ (point : Float → Point) (entry exit a : Float) (e : a ≡ absOf (sub binary32 exit entry)) (qs : List Point) where
   pub segment-samples : (steps : ℕ) → lt a tiny ≡ false → steps ≡ stepsOf (sub binary32 exit entry)
-      → sampleFrom place entry (sub binary32 exit entry) steps (steps + 1) 0 qs ≡ sampleSegment place entry exit qs
+      → sampleFrom point entry (sub binary32 exit entry) steps (steps + 1) 0 qs ≡ sampleSegment point entry exit qs
   unfolding sampleSpan
   segment-samples steps t f =
-      ap (λ (n : ℕ). sampleFrom place entry (sub binary32 exit entry) n (n + 1) 0 qs) f
-      ∙ ap (λ (b : Bool). sampleSpan b place entry (sub binary32 exit entry) qs) (sym t ∙ ap (λ (x : Float). lt x tiny) e)
+      ap (λ (n : ℕ). sampleFrom point entry (sub binary32 exit entry) n (n + 1) 0 qs) f
+      ∙ ap (λ (b : Bool). sampleSpan b point entry (sub binary32 exit entry) qs) (sym t ∙ ap (λ (x : Float). lt x tiny) e)
 
   -- a point alone
-  pub segment-point : (room : ℕ) (p : Point) (old : List Float) (kept r : Kept) (out out′ : List Float) → lt a tiny ≡ true → p ≡ place entry
+  pub segment-point : (room : ℕ) (p : Point) (old : List Float) (kept r : Kept) (out out′ : List Float) → lt a tiny ≡ true → p ≡ point entry
       → kept ≡ keptOf qs → out ≡ laid qs old → r ≡ pushing kept p → out′ ≡ putting kept p out → kept .count ≤ room
-      → Sampled room (sampleSegment place entry exit qs) old r out′
+      → Sampled room (sampleSegment point entry exit qs) old r out′
   unfolding sampleSpan
   segment-point room p old kept r out out′ t g k w f h few =
       let c = ap (λ (q : Kept). q .count) k in
       let l = pushed-few qs p in
       sampled-all room (pushed qs p) _ old r out′ (f ∙ ap (λ (q : Kept). pushing q p) k ∙ pushed-kept qs p)
       (h ∙ ap₂ (λ (q : Kept) (o : List Float). putting q p o) k w ∙ pushed-laid qs p old) (omega arith)
-      (ap (pushed qs) g ∙ ap (λ (b : Bool). sampleSpan b place entry (sub binary32 exit entry) qs) (sym t ∙ ap (λ (x : Float). lt x tiny) e))
+      (ap (pushed qs) g ∙ ap (λ (b : Bool). sampleSpan b point entry (sub binary32 exit entry) qs) (sym t ∙ ap (λ (x : Float). lt x tiny) e))
 
 -- ---- `leads`
 
@@ -325,25 +325,25 @@ module _ (links : List ℕ) (lane : ℕ) where
 
 -- ---- `sample_route`
 
-segment-front : (place : Float → Point) (entry exit : Float) (qs : List Point) → Front qs (sampleSegment place entry exit qs)
+segment-front : (point : Float → Point) (entry exit : Float) (qs : List Point) → Front qs (sampleSegment point entry exit qs)
 unfolding sampleSpan
-segment-front place entry exit qs = go (lt (absOf span) tiny)
+segment-front point entry exit qs = go (lt (absOf span) tiny)
   where
     span : Float
     span = sub binary32 exit entry
 
-    go : (b : Bool) → Front qs (sampleSpan b place entry span qs)
-    go true = pushed-front qs (place entry)
-    go false = from-front place entry span (stepsOf span) (stepsOf span + 1) 0 qs
+    go : (b : Bool) → Front qs (sampleSpan b point entry span qs)
+    go true = pushed-front qs (point entry)
+    go false = from-front point entry span (stepsOf span) (stepsOf span + 1) 0 qs
 
-module _ (T : RouteTables) (goal : Float) where
-  lanes-front : (rest : List ℕ) (i : ℕ) (entry : Float) (qs : List Point) → Front qs (sampleLanes T goal i entry rest qs)
+module _ (T : RouteTables) (goalS : Float) where
+  lanes-front : (rest : List ℕ) (i : ℕ) (entry : Float) (qs : List Point) → Front qs (sampleLanes T goalS i entry rest qs)
   unfolding sampleLanes
-  lanes-front [] i entry qs = segment-front (placeIn T i) entry (exitAt (T .lanes) (T .cumulative) i entry goal) qs
+  lanes-front [] i entry qs = segment-front (pointIn T i) entry (exitAt (T .lanes) (T .cumulative) i entry goalS) qs
   lanes-front (next ∷ rest) i entry qs =
       let exit = exitFor T i next entry in
-      front-on qs (sampleSegment (placeIn T i) entry exit qs) _ (segment-front (placeIn T i) entry exit qs)
-      (lanes-front rest next (entryAfter T i exit next) (sampleSegment (placeIn T i) entry exit qs))
+      front-on qs (sampleSegment (pointIn T i) entry exit qs) _ (segment-front (pointIn T i) entry exit qs)
+      (lanes-front rest next (entryAfter T i exit next) (sampleSegment (pointIn T i) entry exit qs))
 
   -- where the loop stands before lane k of the path, on lane i, which is entered at `entry`: the points so far, of which the lanes left make all
   pub record Routing (path : List ℕ) (n : ℕ) (all : List Point) (old : List Float) (room k i : ℕ) (entry : Float) (r : Kept)
@@ -353,39 +353,39 @@ module _ (T : RouteTables) (goal : Float) where
     pub written : out ≡ laid points old
     pub few : r .count ≤ room
     pub lane : i < n
-    pub rest : sampleLanes T goal i entry (drop k path) points ≡ all
+    pub rest : sampleLanes T goalS i entry (drop k path) points ≡ all
 
-  pub routing-starts : (path : List ℕ) (n : ℕ) (start entry : Float) (old : List Float) (room : ℕ) → PathRows path n
-      → entry ≡ entryFirst T (getD path 0 0) start
-      → Routing path n (sampleRoute T path start goal) old room 1 (getD path 0 0) entry (keptOf []) old
+  pub routing-starts : (path : List ℕ) (n : ℕ) (startS entry : Float) (old : List Float) (room : ℕ) → PathRows path n
+      → entry ≡ entryFirst T (getD path 0 0) startS
+      → Routing path n (sampleRoute T path startS goalS) old room 1 (getD path 0 0) entry (keptOf []) old
   unfolding sampleRoute laid
-  routing-starts [] n start entry old room P e = absurd (not-suc-le-zero (P .some))
-  routing-starts (i ∷ rest) n start entry old room P e =
+  routing-starts [] n startS entry old room P e = absurd (not-suc-le-zero (P .some))
+  routing-starts (i ∷ rest) n startS entry old room P e =
       record {
         points = [];
         kept = refl;
         written = refl;
         few = omega arith;
         lane = P .each 0 (P .some);
-        rest = ap (λ (s : Float). sampleLanes T goal i s rest []) e;
+        rest = ap (λ (s : Float). sampleLanes T goalS i s rest []) e;
       }
 
   module _ (path : List ℕ) (n : ℕ) (all : List Point) (old : List Float) (room k i : ℕ) (entry : Float) (r : Kept) (out : List Float)
       (R : Routing path n all old room k i entry r out) (exit : Float) (r′ : Kept) (out′ : List Float)
-      (S : Sampled room (sampleSegment (placeIn T i) entry exit (R .points)) old r′ out′) where
+      (S : Sampled room (sampleSegment (pointIn T i) entry exit (R .points)) old r′ out′) where
     abbrev segment : List Point
-    segment = sampleSegment (placeIn T i) entry exit (R .points)
+    segment = sampleSegment (pointIn T i) entry exit (R .points)
 
     -- over to the lane `next`
     module _ (next : ℕ) (h : k < length path) (e : next ≡ getD path k 0) (f : exit ≡ exitFor T i next entry) where
-      onward : sampleLanes T goal next (entryAfter T i exit next) (drop (k + 1) path) segment ≡ all
+      onward : sampleLanes T goalS next (entryAfter T i exit next) (drop (k + 1) path) segment ≡ all
       unfolding sampleLanes
       onward =
           let Q : Float → List ℕ → List Point = λ (x : Float) (rest : List ℕ).
-          sampleLanes T goal next (entryAfter T i x next) rest (sampleSegment (placeIn T i) entry x (R .points)) in
+          sampleLanes T goalS next (entryAfter T i x next) rest (sampleSegment (pointIn T i) entry x (R .points)) in
           let split : drop k path ≡ next ∷ drop (k + 1) path = drop-cons path k 0 h ∙ ap₂ (λ (x m : ℕ). x ∷ drop m path) (sym e) (sym (add-one k)) in
           ap (λ (x : Float). Q x (drop (k + 1) path)) f
-          ∙ ap (λ (l : List ℕ). sampleLanes T goal i entry l (R .points)) (sym split)
+          ∙ ap (λ (l : List ℕ). sampleLanes T goalS i entry l (R .points)) (sym split)
           ∙ R .rest
 
       -- how many points of the lane are kept
@@ -403,7 +403,7 @@ module _ (T : RouteTables) (goal : Float) where
             written = S .written ∙ ap (λ (ps : List Point). laid ps old) whole;
             few = few;
             lane = subst (λ (x : ℕ). x < n) (sym e) (P .each k h);
-            rest = ap (λ (s : Float). sampleLanes T goal next s (drop (k + 1) path) segment) g ∙ onward;
+            rest = ap (λ (s : Float). sampleLanes T goalS next s (drop (k + 1) path) segment) g ∙ onward;
           }
 
       pub routing-stops : room < r′ .count → Sampled room all old r′ out′
@@ -414,10 +414,10 @@ module _ (T : RouteTables) (goal : Float) where
           record { kept = S .kept ∙ ap keptOf (sym first); written = S .written ∙ ap (λ (ps : List Point). laid ps old) (sym first) }
 
     -- the last lane
-    pub routing-ends : length path ≤ k → exit ≡ exitAt (T .lanes) (T .cumulative) i entry goal → Sampled room all old r′ out′
+    pub routing-ends : length path ≤ k → exit ≡ exitAt (T .lanes) (T .cumulative) i entry goalS → Sampled room all old r′ out′
     unfolding sampleLanes
     routing-ends h f =
-        sampled-as room (sampleSegment (placeIn T i) entry exit (R .points)) all old r′ out′
-        (ap (λ (x : Float). sampleSegment (placeIn T i) entry x (R .points)) f
-        ∙ ap (λ (l : List ℕ). sampleLanes T goal i entry l (R .points)) (sym (drop-of-length-le path h))
+        sampled-as room (sampleSegment (pointIn T i) entry exit (R .points)) all old r′ out′
+        (ap (λ (x : Float). sampleSegment (pointIn T i) entry x (R .points)) f
+        ∙ ap (λ (l : List ℕ). sampleLanes T goalS i entry l (R .points)) (sym (drop-of-length-le path h))
         ∙ R .rest) S

@@ -58,19 +58,19 @@ abbrev pub sampleAt : Float → Float → ℕ → ℕ → Float
 sampleAt entry span steps k =
     add binary32 entry (mul binary32 span (div binary32 (ofInt binary32 (pos k)) (ofInt binary32 (pos steps))))
 
--- n samples from sample k on, after the points ps; `place` is the place at an arc length
+-- n samples from sample k on, after the points ps; `point` is the point at an arc length
 unfoldable pub sampleFrom : (Float → Point) → Float → Float → ℕ → ℕ → ℕ → List Point → List Point
-sampleFrom place entry span steps zero k ps = ps
-sampleFrom place entry span steps (suc n) k ps =
-    sampleFrom place entry span steps n (k + 1) (pushed ps (place (sampleAt entry span steps k)))
+sampleFrom point entry span steps zero k ps = ps
+sampleFrom point entry span steps (suc n) k ps =
+    sampleFrom point entry span steps n (k + 1) (pushed ps (point (sampleAt entry span steps k)))
 
 -- `sample_segment`; the Bool says whether the span is under 1e-4
 unfoldable pub sampleSpan : Bool → (Float → Point) → Float → Float → List Point → List Point
-sampleSpan true place entry span ps = pushed ps (place entry)
-sampleSpan false place entry span ps = let steps = stepsOf span in sampleFrom place entry span steps (steps + 1) 0 ps
+sampleSpan true point entry span ps = pushed ps (point entry)
+sampleSpan false point entry span ps = let steps = stepsOf span in sampleFrom point entry span steps (steps + 1) 0 ps
 
 abbrev pub sampleSegment : (Float → Point) → Float → Float → List Point → List Point
-sampleSegment place entry exit ps = let span = sub binary32 exit entry in sampleSpan (lt (absOf span) tiny) place entry span ps
+sampleSegment point entry exit ps = let span = sub binary32 exit entry in sampleSpan (lt (absOf span) tiny) point entry span ps
 
 -- ---- lanes
 
@@ -85,9 +85,9 @@ changesOff fans links i next =
     leads links (firstNeighbour fans i) (neighbours fans i) next && not (leads links (firstLink fans i) (successors fans i) next)
 
 module _ (lanes : List ℕ) (points cumulative : List Float) where
-  -- the place at an arc length of lane i, and the arc length of the place on lane i that is nearest to p
-  abbrev pub placeOn : ℕ → Float → Point
-  placeOn i s = pointAlong (pointsOf lanes points i) (arcsOf lanes cumulative i) s
+  -- the point at an arc length of lane i, and the arc length of the point on lane i that is nearest to p
+  abbrev pub pointOn : ℕ → Float → Point
+  pointOn i s = pointAlong (pointsOf lanes points i) (arcsOf lanes cumulative i) s
 
   abbrev pub entryOn : ℕ → Point → Float
   entryOn i p = projectOf (pointsOf lanes points i) (arcsOf lanes cumulative i) p .s
@@ -107,9 +107,9 @@ module _ (lanes : List ℕ) (points cumulative : List Float) where
 
 -- where lane i, entered at `entry`, ends the route: at the goal, if that lies ahead
 unfoldable pub exitAt : List ℕ → List Float → ℕ → Float → Float → Float
-exitAt lanes cumulative i entry goal =
-    let within = clampOf goal zero⁺ (lengthOf lanes cumulative i) in
-    cond (isAhead (directionOf lanes i) entry within) within entry
+exitAt lanes cumulative i entry goalS =
+    let goal = clampOf goalS zero⁺ (lengthOf lanes cumulative i) in
+    cond (isAhead (directionOf lanes i) entry goal) goal entry
 
 module _ (T : RouteTables) where
   -- and where it is left for `next`: a change goes at most 10 m on
@@ -118,25 +118,25 @@ module _ (T : RouteTables) where
       let end = travelEnd (T .lanes) (T .points) (T .cumulative) i next in
       cond (changesOff (T .fans) (T .links) i next) (toward entry end changeDistance) end
 
-  abbrev pub placeIn : ℕ → Float → Point
-  placeIn i s = placeOn (T .lanes) (T .points) (T .cumulative) i s
+  abbrev pub pointIn : ℕ → Float → Point
+  pointIn i s = pointOn (T .lanes) (T .points) (T .cumulative) i s
 
-  -- the next lane is entered beside the place where lane i is left
+  -- the next lane is entered beside the point where lane i is left
   abbrev pub entryAfter : ℕ → Float → ℕ → Float
-  entryAfter i exit next = entryOn (T .lanes) (T .points) (T .cumulative) next (placeIn i exit)
+  entryAfter i exit next = entryOn (T .lanes) (T .points) (T .cumulative) next (pointIn i exit)
 
   -- the lanes from i on, which is entered at `entry`, after the points ps
   unfoldable pub sampleLanes : Float → ℕ → Float → List ℕ → List Point → List Point
-  sampleLanes goal i entry [] ps = sampleSegment (placeIn i) entry (exitAt (T .lanes) (T .cumulative) i entry goal) ps
-  sampleLanes goal i entry (next ∷ rest) ps =
+  sampleLanes goalS i entry [] ps = sampleSegment (pointIn i) entry (exitAt (T .lanes) (T .cumulative) i entry goalS) ps
+  sampleLanes goalS i entry (next ∷ rest) ps =
       let exit = exitFor i next entry in
-      sampleLanes goal next (entryAfter i exit next) rest (sampleSegment (placeIn i) entry exit ps)
+      sampleLanes goalS next (entryAfter i exit next) rest (sampleSegment (pointIn i) entry exit ps)
 
   -- where the first lane is entered
   abbrev pub entryFirst : ℕ → Float → Float
-  entryFirst i start = clampOf start zero⁺ (lengthOf (T .lanes) (T .cumulative) i)
+  entryFirst i startS = clampOf startS zero⁺ (lengthOf (T .lanes) (T .cumulative) i)
 
   -- `sample_route` of a path: its points, from the last back to the first
   unfoldable pub sampleRoute : List ℕ → Float → Float → List Point
-  sampleRoute [] start goal = []
-  sampleRoute (i ∷ rest) start goal = sampleLanes goal i (entryFirst i start) rest []
+  sampleRoute [] startS goalS = []
+  sampleRoute (i ∷ rest) startS goalS = sampleLanes goalS i (entryFirst i startS) rest []

@@ -11,7 +11,7 @@ ghost use Rattle.geometry.specs.Polyline.{Line};
 ghost use Rattle.rows.specs.Rows.{arcsOf, endPoint, pointsOf};
 ghost use Rattle.sampling.specs.Kept.{isFresh, pushing, putAt, putting};
 ghost use Rattle.sampling.specs.Sampling.{changesOff, entryOn, exitAt, exitFor, isAhead, isForward, leads};
-ghost use Rattle.sampling.specs.Sampling.{placeOn, routeTables, sampleAt, sampleRoute, stepsOf, toward, travelEnd};
+ghost use Rattle.sampling.specs.Sampling.{pointOn, routeTables, sampleAt, sampleRoute, stepsOf, toward, travelEnd};
 ghost use Rattle.sampling.specs.Passes.{AllLinked, Linking, PathRows, Sampled, SegmentSampled};
 
 // How many points are kept, and the last of them.
@@ -117,7 +117,8 @@ fn sample(
     )
 }
 
-// Points along a lane's centerline from arc length `entry` to `exit`, spaced ~`ROUTE_STEP`; no more once over `room` are kept.
+// Points along a lane's centerline from arc length `entry` to `exit`, spaced ~`ROUTE_STEP`; no more once over `room` are kept. The last sample
+// stands outside the loop: `steps` may be the largest usize, where `k + 1` would wrap.
 fn sample_segment(
     points: &[f32],
     cumulative: &[f32],
@@ -178,7 +179,8 @@ fn changes_off(fans: &[usize], links: &[usize], i: usize, next: usize) -> bool
     false
 }
 
-// Travel order: a forward lane runs along its polyline, a backward one against it, and a two-way one toward the next lane.
+// Travel order: a forward lane runs along its polyline, a backward one against it, and a two-way one toward the next lane: `nearer_end` is
+// `branches::at_end` of a branch that moves up the lane.
 fn is_forward(lanes: &[usize], points: &[f32], cumulative: &[f32], i: usize, next: usize) -> bool
     requires { ⌜ Laid (now lanes) (now points) (now cumulative) i × Laid (now lanes) (now points) (now cumulative) next ⌝ }
     ensures { λ r. ⌜ r ≡ isForward (now (lanes .entry)) (now (points .entry)) (now (cumulative .entry)) i next ⌝ }
@@ -228,22 +230,22 @@ fn exit_for(
 }
 
 // Where lane i, entered at `entry`, ends the route.
-fn exit_at(lanes: &[usize], cumulative: &[f32], i: usize, entry: f32, goal: f32) -> f32
+fn exit_at(lanes: &[usize], cumulative: &[f32], i: usize, entry: f32, goal_s: f32) -> f32
     requires { ⌜ (6 * i + 5 < length (now lanes)) × (endPoint (now lanes) i ≤ length (now cumulative))
         × (0 < length (arcsOf (now lanes) (now cumulative) i)) ⌝ }
-    ensures { λ r. ⌜ r ≡ exitAt (now (lanes .entry)) (now (cumulative .entry)) i entry goal ⌝ }
+    ensures { λ r. ⌜ r ≡ exitAt (now (lanes .entry)) (now (cumulative .entry)) i entry «goal_s» ⌝ }
 {
-    let within = float::clamp(goal, 0.0, branches::lane_length(lanes, cumulative, i));
-    if ahead(lanes[6 * i + 2], entry, within) {
-        return within;
+    let goal = float::clamp(goal_s, 0.0, branches::lane_length(lanes, cumulative, i));
+    if ahead(lanes[6 * i + 2], entry, goal) {
+        return goal;
     }
     entry
 }
 
-// The place at arc length s of lane i.
-fn place_on(lanes: &[usize], points: &[f32], cumulative: &[f32], i: usize, s: f32) -> Point
+// The point at arc length s of lane i.
+fn point_on(lanes: &[usize], points: &[f32], cumulative: &[f32], i: usize, s: f32) -> Point
     requires { ⌜ Laid (now lanes) (now points) (now cumulative) i ⌝ }
-    ensures { λ r. ⌜ r ≡ placeOn (now (lanes .entry)) (now (points .entry)) (now (cumulative .entry)) i s ⌝ }
+    ensures { λ r. ⌜ r ≡ pointOn (now (lanes .entry)) (now (points .entry)) (now (cumulative .entry)) i s ⌝ }
 {
     let first = lanes[6 * i + 4];
     let end = first + lanes[6 * i + 5];
@@ -252,7 +254,7 @@ fn place_on(lanes: &[usize], points: &[f32], cumulative: &[f32], i: usize, s: f3
     geometry::point_at(&points[a..e], &cumulative[first..end], s)
 }
 
-// Where lane i is entered from p: the arc length of the nearest place on it.
+// Where lane i is entered from p: the arc length of the nearest point on it.
 fn entry_on(lanes: &[usize], points: &[f32], cumulative: &[f32], i: usize, p: Point) -> f32
     requires { ⌜ Laid (now lanes) (now points) (now cumulative) i ⌝ }
     ensures { λ r. ⌜ r ≡ entryOn (now (lanes .entry)) (now (points .entry)) (now (cumulative .entry)) i p ⌝ }
@@ -306,18 +308,18 @@ pub fn sample_route(
     fans: &[usize],
     links: &[usize],
     path: &[usize],
-    start: f32,
-    goal: f32,
+    start_s: f32,
+    goal_s: f32,
     room: usize,
     out: &mut [f32],
 ) -> Kept
     requires { ⌜ PathRows (now path) n × AllLaid (now lanes) n (now points) (now cumulative) × AllLinked (now fans) n (now links)
         × (room < 18446744073709551615) ⌝ }
     ensures { λ r. ⌜ Sampled room (sampleRoute (routeTables (now (lanes .entry)) (now (points .entry)) (now (cumulative .entry))
-        (now (fans .entry)) (now (links .entry))) (now (path .entry)) start goal) (now (out .entry)) r (now (out .exit)) ⌝ }
+        (now (fans .entry)) (now (links .entry))) (now (path .entry)) «start_s» «goal_s») (now (out .entry)) r (now (out .exit)) ⌝ }
 {
     let mut i = path[0];
-    let mut entry = float::clamp(start, 0.0, branches::lane_length(lanes, cumulative, i));
+    let mut entry = float::clamp(start_s, 0.0, branches::lane_length(lanes, cumulative, i));
     let mut kept = Kept {
         count: 0,
         last: Point {
@@ -339,11 +341,11 @@ pub fn sample_route(
             points,
             cumulative,
             next,
-            place_on(lanes, points, cumulative, i, exit),
+            point_on(lanes, points, cumulative, i, exit),
         );
         i = next;
         k += 1;
     }
-    let exit = exit_at(lanes, cumulative, i, entry, goal);
+    let exit = exit_at(lanes, cumulative, i, entry, goal_s);
     sample_lane(lanes, points, cumulative, i, entry, exit, room, kept, out)
 }

@@ -12,10 +12,10 @@ use Rattle.float.specs.Choose.{clampOf}
 use Rattle.rows.specs.Rows.{directionOf, lengthOf}
 use Rattle.sampling.specs.Sampling.{exitAt, isAhead}
 
-picks : (lanes : List ℕ) (cumulative : List Float) (i : ℕ) (entry goal len within : Float) (b : Bool) → len ≡ lengthOf lanes cumulative i
-    → within ≡ clampOf goal zero⁺ len → b ≡ isAhead (directionOf lanes i) entry within → exitAt lanes cumulative i entry goal ≡ cond b within entry
+picks : (lanes : List ℕ) (cumulative : List Float) (i : ℕ) (entry goalS len goal : Float) (b : Bool) → len ≡ lengthOf lanes cumulative i
+    → goal ≡ clampOf goalS zero⁺ len → b ≡ isAhead (directionOf lanes i) entry goal → exitAt lanes cumulative i entry goalS ≡ cond b goal entry
 unfolding exitAt
-picks lanes cumulative i entry goal len within b e f g = rw (g, f, e)
+picks lanes cumulative i entry goalS len goal b e f g = rw (g, f, e)
 
 lane-length-requires : tie.Need-lane-length-requires
 lane-length-requires c κs = c .before .before .pre
@@ -45,7 +45,7 @@ returns c =
     let c₃ = c₂ .before in
     let c₄ = c₃ .before .before .before in
     let a = c₄ .args in
-    let p = picks (a .lanes .now) (a .cumulative .now) (a .i) (a .entry) (a .goal) (c₃ .lane-length .result) (c₂ .clamp .result)
+    let p = picks (a .lanes .now) (a .cumulative .now) (a .i) (a .entry) (a .goal-s) (c₃ .lane-length .result) (c₂ .clamp .result)
     (c₁ .ahead .result) (c₃ .lane-length .ensures) (c₂ .clamp .ensures) (c₁ .ahead .ensures) in
     sym (p ∙ ap (λ (b : Bool). cond b (c₂ .clamp .result) (a .entry)) (c .if1 .taken))
 
@@ -56,7 +56,7 @@ returns-2 c =
     let c₃ = c₂ .before in
     let c₄ = c₃ .before .before .before in
     let a = c₄ .args in
-    let p = picks (a .lanes .now) (a .cumulative .now) (a .i) (a .entry) (a .goal) (c₃ .lane-length .result) (c₂ .clamp .result)
+    let p = picks (a .lanes .now) (a .cumulative .now) (a .i) (a .entry) (a .goal-s) (c₃ .lane-length .result) (c₂ .clamp .result)
     (c₁ .ahead .result) (c₃ .lane-length .ensures) (c₂ .clamp .ensures) (c₁ .ahead .ensures) in
     sym (p ∙ ap (λ (b : Bool). cond b (c₂ .clamp .result) (a .entry)) (c .if1 .left))
 

@@ -11,9 +11,9 @@ use Rattle.geometry.specs.Locate.{pointAlong}
 use Rattle.sampling.specs.Kept.{pushing, putting}
 use Rattle.sampling.specs.Sampling.{sampleAt}
 
-place : (at : Float → Point) (entry span a b : Float) (k steps : ℕ) (p : Point) → a ≡ ofInt binary32 (pos k) → b ≡ ofInt binary32 (pos steps)
+point-is : (at : Float → Point) (entry span a b : Float) (k steps : ℕ) (p : Point) → a ≡ ofInt binary32 (pos k) → b ≡ ofInt binary32 (pos steps)
     → p ≡ at (add binary32 entry (mul binary32 span (div binary32 a b))) → p ≡ at (sampleAt entry span steps k)
-place at entry span a b k steps p e f g = rw (e, f) at g
+point-is at entry span a b k steps p e f g = rw (e, f) at g
 
 nearest-usize-to-f32-requires : tie.Need-nearest-usize-to-f32-requires
 nearest-usize-to-f32-requires c κs = search needs
@@ -37,7 +37,7 @@ returns c =
     let c₃ = c₂ .before in
     let c₄ = c₃ .before in
     let c₅ = c₄ .before .before .before .before in
-    let p = place (pointAlong (c₅ .args .points .now) (c₅ .args .cumulative .now)) (c₅ .args .entry) (c₅ .args .span) _ _ (c₅ .args .k)
+    let p = point-is (pointAlong (c₅ .args .points .now) (c₅ .args .cumulative .now)) (c₅ .args .entry) (c₅ .args .span) _ _ (c₅ .args .k)
     (c₅ .args .steps) _ (c₄ .nearest-usize-to-f32 .ensures) (c₃ .nearest-usize-to-f322 .ensures) (c₂ .point-at .ensures) in (
       c₁ .push-dedup .ensures .0 ∙ ap (pushing (c₅ .args .kept)) p,
       c₁ .push-dedup .ensures .1 ∙ ap

@@ -14,12 +14,12 @@ use Rattle.sampling.specs.Passes.{Routing, length-laid, routing-ends, ro
 use Rattle.sampling.specs.Sampling.{entryOn, routeTables, sampleRoute}
 
 abbrev Inv-loop : tie.InvT-loop
-Inv-loop lanes n points cumulative fans links path start goal room out₀ i₀ entry₀ kept₀ k₀ out i entry kept k =
-    Routing (routeTables lanes points cumulative fans links) goal path n
-    (sampleRoute (routeTables lanes points cumulative fans links) path start goal) out₀ room k i entry kept out × (length out ≡ length out₀)
+Inv-loop lanes n points cumulative fans links path startS goalS room out₀ i₀ entry₀ kept₀ k₀ out i entry kept k =
+    Routing (routeTables lanes points cumulative fans links) goalS path n
+    (sampleRoute (routeTables lanes points cumulative fans links) path startS goalS) out₀ room k i entry kept out × (length out ≡ length out₀)
 
 abbrev μ-loop : tie.MeasureT-loop
-μ-loop lanes n points cumulative fans links path start goal room out₀ i₀ entry₀ kept₀ k₀ out i entry kept k = length path - k
+μ-loop lanes n points cumulative fans links path startS goalS room out₀ i₀ entry₀ kept₀ k₀ out i entry kept k = length path - k
 
 shared-slice-read-i : tie.Need-shared-slice-read-i Inv-loop μ-loop
 shared-slice-read-i c =
@@ -39,8 +39,8 @@ loop-holds c =
     let c₁ = c .before .before .before .before .before .before .before .before .before .before in
     let a = c₁ .args in
     let T = routeTables (a .lanes .now) (a .points .now) (a .cumulative .now) (a .fans .now) (a .links .now) in (
-      routing-starts T (a .goal) (a .path .now) (a .n) (a .start) (c .clamp .result) (a .out .now) (a .room) (c₁ .pre .0)
-          (c .clamp .ensures ∙ ap (λ (x : Float). clampOf (a .start) zero⁺ x) (c .before .lane-length .ensures)),
+      routing-starts T (a .goal-s) (a .path .now) (a .n) (a .start-s) (c .clamp .result) (a .out .now) (a .room) (c₁ .pre .0)
+          (c .clamp .ensures ∙ ap (λ (x : Float). clampOf (a .start-s) zero⁺ x) (c .before .lane-length .ensures)),
       refl,
     )
 
@@ -80,12 +80,12 @@ returns c =
     let l = c₄ .loop in
     let R = l .inv .0 in
     let T = routeTables (a .lanes .now) (a .points .now) (a .cumulative .now) (a .fans .now) (a .links .now) in
-    routing-stops T (a .goal) (a .path .now) (a .n) _ (a .out .now) (a .room) (l .k) (l .i) (l .entry) (l .kept) (l .out) R (c₂ .exit-for .result)
+    routing-stops T (a .goal-s) (a .path .now) (a .n) _ (a .out .now) (a .room) (l .k) (l .i) (l .entry) (l .kept) (l .out) R (c₂ .exit-for .result)
     _ _ (c₁ .sample-lane .ensures (R .points) (a .out .now) (R .kept) (R .written)) (getD (a .path .now) (l .k) 0) (c₃ .loop-test .taken) refl
     (c₂ .exit-for .ensures) (c .if1 .taken)
 
-place-on-requires : tie.Need-place-on-requires Inv-loop μ-loop
-place-on-requires c κs =
+point-on-requires : tie.Need-point-on-requires Inv-loop μ-loop
+point-on-requires c κs =
     let c₁ = c .before .before .before .before .before .before .before .before .before in
     let c₂ = c₁ .before .before .before .before .before .before .before .before .before .before .before in
     c₂ .pre .1 _ (c₁ .loop .inv .0 .lane)
@@ -120,13 +120,13 @@ loop-again c =
     let R = l .inv .0 in
     let next = getD (a .path .now) (l .k) 0 in
     let T = routeTables (a .lanes .now) (a .points .now) (a .cumulative .now) (a .fans .now) (a .links .now) in
-    let R′ = routing-next T (a .goal) (a .path .now) (a .n) _ (a .out .now) (a .room) (l .k) (l .i) (l .entry) (l .kept) (l .out) R
+    let R′ = routing-next T (a .goal-s) (a .path .now) (a .n) _ (a .out .now) (a .room) (l .k) (l .i) (l .entry) (l .kept) (l .out) R
     (c₂ .exit-for .result)
     (c₁ .sample-lane .result) _ (c₁ .sample-lane .ensures (R .points) (a .out .now) (R .kept) (R .written)) next (c₃ .loop-test .taken) refl
     (c₂ .exit-for .ensures)
     (c₅ .pre .0) (c .entry-on .result) (c .before .before .if1 .left)
     (c .entry-on .ensures ∙ ap (λ (p : Point). entryOn (a .lanes .now) (a .points .now) (a .cumulative .now) next p)
-    (c .before .place-on .ensures)) in
+    (c .before .point-on .ensures)) in
     (R′, ap length (R′ .written) ∙ length-laid (R′ .points) (a .out .now))
 
 exit-at-requires : tie.Need-exit-at-requires Inv-loop μ-loop
@@ -153,7 +153,7 @@ returns-2 c =
     let l = c₃ .loop in
     let R = l .inv .0 in
     let T = routeTables (a .lanes .now) (a .points .now) (a .cumulative .now) (a .fans .now) (a .links .now) in
-    routing-ends T (a .goal) (a .path .now) (a .n) _ (a .out .now) (a .room) (l .k) (l .i) (l .entry) (l .kept) (l .out) R (c₁ .exit-at .result)
+    routing-ends T (a .goal-s) (a .path .now) (a .n) _ (a .out .now) (a .room) (l .k) (l .i) (l .entry) (l .kept) (l .out) R (c₁ .exit-at .result)
     _ _ (c .before .before .sample-lane2 .ensures (R .points) (a .out .now) (R .kept) (R .written)) (c₂ .loop-test .left) (c₁ .exit-at .ensures)
 
 pub sample-route-spec : {M : Type 1} → statement M
@@ -172,7 +172,7 @@ sample-route-spec =
     sample-lane-requires
     same-length
     returns
-    place-on-requires
+    point-on-requires
     entry-on-requires
     add-k
     loop-less

@@ -85,10 +85,10 @@ returns-2 c =
     λ qs old e f.
     let a = c₆ .args in
     let l = c₂ .loop in
-    let place = pointAlong (a .points .now) (a .cumulative .now) in
-    sampled-as (a .room) _ _ old _ _ (segment-samples place (a .entry) (a .exit) (c₅ .abs .result) (c₅ .abs .ensures) qs (c₃ .steps-of .result)
+    let point = pointAlong (a .points .now) (a .cumulative .now) in
+    sampled-as (a .room) _ _ old _ _ (segment-samples point (a .entry) (a .exit) (c₅ .abs .result) (c₅ .abs .ensures) qs (c₃ .steps-of .result)
     (c₄ .if1 .left) (c₃ .steps-of .ensures))
-    (sampling-stops place (a .entry) (sub binary32 (a .exit) (a .entry)) (c₃ .steps-of .result) (l .k) _ old _ _ _ _ (l .inv .2 qs old e f)
+    (sampling-stops point (a .entry) (sub binary32 (a .exit) (a .entry)) (c₃ .steps-of .result) (l .k) _ old _ _ _ _ (l .inv .2 qs old e f)
     (c₁ .sample .ensures .0) (c₁ .sample .ensures .1) (a .room) (l .inv .1) (c .if2 .taken))
 
 add-k : tie.Need-add-k Inv-loop μ-loop
@@ -109,8 +109,8 @@ loop-again c =
       λ qs old e f.
           let a = c₅ .args in
           let l = c₃ .loop in
-          let place = pointAlong (a .points .now) (a .cumulative .now) in
-          sampling-next place (a .entry) (sub binary32 (a .exit) (a .entry)) (c₄ .steps-of .result) (l .k) _ old _ _ _ _ (l .inv .2 qs old e f)
+          let point = pointAlong (a .points .now) (a .cumulative .now) in
+          sampling-next point (a .entry) (sub binary32 (a .exit) (a .entry)) (c₄ .steps-of .result) (l .k) _ old _ _ _ _ (l .inv .2 qs old e f)
           (c₁ .sample .ensures .0) (c₁ .sample .ensures .1) (c₂ .loop-test .taken),
       ap length (c₁ .sample .ensures .1) ∙ length-putting
           (c₃ .loop .all) _ (c₃ .loop .out) ∙ c₃ .loop .inv .3,
@@ -137,10 +137,10 @@ returns-3 c =
     let a = c₇ .args in
     let l = c₃ .loop in
     let e-k : l .k ≡ c₄ .steps-of .result = omega (arith, c₂ .loop-test .left, l .inv .0) in
-    let place = pointAlong (a .points .now) (a .cumulative .now) in
-    sampled-as (a .room) _ _ old _ _ (segment-samples place (a .entry) (a .exit) (c₆ .abs .result) (c₆ .abs .ensures) qs (c₄ .steps-of .result)
+    let point = pointAlong (a .points .now) (a .cumulative .now) in
+    sampled-as (a .room) _ _ old _ _ (segment-samples point (a .entry) (a .exit) (c₆ .abs .result) (c₆ .abs .ensures) qs (c₄ .steps-of .result)
     (c₅ .if1 .left) (c₄ .steps-of .ensures))
-    (sampling-ends place (a .entry) (sub binary32 (a .exit) (a .entry)) (c₄ .steps-of .result) (l .k) _ old _ _ _ _ (l .inv .2 qs old e f) e-k
+    (sampling-ends point (a .entry) (sub binary32 (a .exit) (a .entry)) (c₄ .steps-of .result) (l .k) _ old _ _ _ _ (l .inv .2 qs old e f) e-k
     (c₁ .sample2 .ensures .0) (c₁ .sample2 .ensures .1) (a .room) (l .inv .1))
 
 pub sample-segment-spec : {M : Type 1} → statement M
