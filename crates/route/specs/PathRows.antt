@@ -10,12 +10,11 @@ use lib.Ieee.{Float, lt}
 use lib.ListN.{getD, length, replicate, set}
 use Rattle.rows.specs.Rows.{laneNumber}
 use Rattle.sampling.specs.Passes.{PathRows}
-use Rattle.sampling.specs.Sampling.{RouteTables}
 use Rattle.search.specs.LaneGraph.{LaneGraph, f32Costs, out, searchedIn}
 use Rattle.search.specs.Loops.{least-below, set-below}
 use Rattle.search.specs.Search.{Edge, Result, State, blank, distOf, expanded, found, leastOpen, marked, rebuild, refused, relaxed, run, searched}
 use Rattle.search.specs.Search.{settled}
-use Rattle.route.specs.Route.{graphOf, pathBy}
+use Rattle.route.specs.Route.{pathBy}
 
 -- every entry is one of n lanes, and so is what stands for one past the end
 abbrev Below : ℕ → List ℕ → Type 0
@@ -119,14 +118,16 @@ module _ (lanes : List ℕ) (G : LaneGraph) (start goal : ℕ) (o : goal < G .co
       go false true e more = rebuilt
       go false false e more = more (below-settled (G .count) G u s (least-below lanes s (G .count) (eqb-false u 256 e)) b)
 
-  pub searched-rows : start < G .count → OfPath (G .count) (searchedIn lanes G start goal)
+  searched-rows : start < G .count → OfPath (G .count) (searchedIn lanes G start goal)
   unfolding searched blank
   searched-rows h =
       of-run 257 (expanded f32Costs start (f32Costs .none) (out G start) (blank f32Costs 256))
       (below-expanded (G .count) start (f32Costs .none) (out G start) (blank f32Costs 256) h (below-zeros (G .count) 256 some))
 
 -- `lane_path`
-pub path-rows : (one : Bool) (T : RouteTables) (n start goal : ℕ) → start < n → goal < n → OfPath n (pathBy one T n start goal)
+pub path-rows : (one : Bool) (lanes : List ℕ) (G : LaneGraph) (start goal : ℕ) → start < G .count → goal < G .count
+    → OfPath (G .count) (pathBy one lanes G start goal)
 unfolding pathBy
-path-rows true T n start goal h o = record { some = omega arith; few = omega arith; each = λ j l. below-cons n start [] h (λ m. omega arith) j }
-path-rows false T n start goal h o = searched-rows (T .lanes) (graphOf T n) start goal o h
+path-rows true lanes G start goal h o =
+    record { some = omega arith; few = omega arith; each = λ j l. below-cons (G .count) start [] h (λ m. omega arith) j }
+path-rows false lanes G start goal h o = searched-rows lanes G start goal o h

@@ -51,12 +51,12 @@ unfoldable pub suffices : List ℕ → ℕ → Float → ℕ → Float → Bool
 suffices lanes start s goal t = eqb start goal && isAhead (directionOf lanes start) s t
 
 -- `lane_path` from s on the lane `start` to t on the lane `goal`: that one lane, at length 0, or what the search finds
-unfoldable pub pathBy : Bool → RouteTables → ℕ → ℕ → ℕ → Result Float
-pathBy true T n start goal = found (start ∷ []) zero⁺
-pathBy false T n start goal = searchedIn (T .lanes) (graphOf T n) start goal
+unfoldable pub pathBy : Bool → List ℕ → LaneGraph → ℕ → ℕ → Result Float
+pathBy true lanes G start goal = found (start ∷ []) zero⁺
+pathBy false lanes G start goal = searchedIn lanes G start goal
 
-abbrev pub pathOf : RouteTables → ℕ → ℕ → Float → ℕ → Float → Result Float
-pathOf T n start s goal t = pathBy (suffices (T .lanes) start s goal t) T n start goal
+abbrev pub pathOf : List ℕ → LaneGraph → ℕ → Float → ℕ → Float → Result Float
+pathOf lanes G start s goal t = pathBy (suffices lanes start s goal t) lanes G start goal
 
 -- ---- the answer
 
@@ -70,7 +70,7 @@ followed T s t (found path cost) =
 unfoldable pub between : RouteTables → ℕ → Nearest → Nearest → Routed
 between T n None b = refusal 10
 between T n (Found d i start q) None = refusal 10
-between T n (Found d i start q) (Found e j goal r) = followed T (q .s) (r .s) (pathOf T n start (q .s) goal (r .s))
+between T n (Found d i start q) (Found e j goal r) = followed T (q .s) (r .s) (pathOf (T .lanes) (graphOf T n) start (q .s) goal (r .s))
 
 -- NUMBER 9 where a coordinate is not finite. The lanes `ls` are the n lanes of the tables.
 unfoldable pub routed : RouteTables → ℕ → List Lane → Point → Point → Routed

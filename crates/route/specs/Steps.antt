@@ -31,7 +31,7 @@ use Rattle.search.specs.LaneGraph as graph
 use Rattle.search.specs.Search.{Result, found, refused}
 use Rattle.search.specs.declared.Answer.{Answer}
 use Rattle.route.specs.PathRows.{OfPath}
-use Rattle.route.specs.Route.{Routable, Routed, Routes, answerOf, between, fitted, followed, lengthsTo, pathOf}
+use Rattle.route.specs.Route.{Routable, Routed, Routes, answerOf, between, fitted, followed, graphOf, lengthsTo, pathOf}
 use Rattle.route.specs.Route.{refusal, routed}
 use Rattle.route.specs.declared.RouteAnswer.{RouteAnswer}
 
@@ -255,7 +255,7 @@ module _ (T : RouteTables) (n chainRoom stopsRoom : ℕ) where
       to-none f = refusal-fits chainRoom stopsRoom 10 ∙ ap₂ (λ (x y : Nearest). fitted chainRoom stopsRoom (between T n x y)) (sym e) (sym f)
 
       pub both-found : (c : Float) (j goal : ℕ) (r : Projection) → to ≡ Found c j goal r
-          → fitted chainRoom stopsRoom (followed T (q .s) (r .s) (pathOf T n start (q .s) goal (r .s)))
+          → fitted chainRoom stopsRoom (followed T (q .s) (r .s) (pathOf (T .lanes) (graphOf T n) start (q .s) goal (r .s)))
           ≡ fitted chainRoom stopsRoom (between T n from to)
       unfolding between
       both-found c j goal r f = ap₂ (λ (x y : Nearest). fitted chainRoom stopsRoom (between T n x y)) (sym e) (sym f)

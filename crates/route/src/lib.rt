@@ -100,12 +100,10 @@ fn one_lane(start: usize) -> Answer
     }
 }
 
-// Shortest lane path from `start` to `goal`, each a lane and a distance along its centerline. Only the contract reads `points`, for the tables
-// that the whole route reads.
+// Shortest lane path from `start` to `goal`, each a lane and a distance along its centerline.
 fn lane_path(
     lanes: &[usize],
     n: usize,
-    points: &[f32],
     cumulative: &[f32],
     fans: &[usize],
     links: &[usize],
@@ -116,8 +114,8 @@ fn lane_path(
 ) -> Answer
     requires { ⌜ (start < n) × (goal < n) × AllLong (now lanes) (now cumulative) n × (6 * n ≤ length (now lanes))
         × Readable (laneGraph n (now fans) (now links) (lengthsTo (now lanes) (now cumulative) n)) ⌝ }
-    ensures { λ r. ⌜ r ≡ graph.answerOf (pathOf (routeTables (now (lanes .entry)) (now (points .entry)) (now (cumulative .entry)) (now (fans .entry))
-        (now (links .entry))) n start s goal t) ⌝ }
+    ensures { λ r. ⌜ r ≡ graph.answerOf (pathOf (now (lanes .entry)) (laneGraph n (now (fans .entry)) (now (links .entry))
+        (lengthsTo (now (lanes .entry)) (now (cumulative .entry)) n)) start s goal t) ⌝ }
 {
     if suffices(lanes, start, s, goal, t) {
         return one_lane(start);
@@ -247,8 +245,8 @@ fn follow(
     }
 }
 
-// The route from s on the lane `start` to t on the lane `goal`.
-fn travel(
+// The route from s on the lane `start` to t on the lane `goal`: its path is found, and followed.
+fn find_and_follow(
     lanes: &[usize],
     n: usize,
     points: &[f32],
@@ -265,10 +263,10 @@ fn travel(
     requires { ⌜ (start < n) × (goal < n) × Routable (routeTables (now lanes) (now points) (now cumulative) (now fans) (now links)) n ⌝ }
     ensures { λ r. ⌜ Routes (fitted (length (now (chain .entry))) (length (now (stops .entry)))
         (followed (routeTables (now (lanes .entry)) (now (points .entry)) (now (cumulative .entry)) (now (fans .entry)) (now (links .entry))) s t
-        (pathOf (routeTables (now (lanes .entry)) (now (points .entry)) (now (cumulative .entry)) (now (fans .entry)) (now (links .entry)))
-        n start s goal t))) r (now (chain .entry)) (now (chain .exit)) (now (stops .entry)) (now (stops .exit)) ⌝ }
+        (pathOf (now (lanes .entry)) (laneGraph n (now (fans .entry)) (now (links .entry))
+        (lengthsTo (now (lanes .entry)) (now (cumulative .entry)) n)) start s goal t))) r (now (chain .entry)) (now (chain .exit)) (now (stops .entry)) (now (stops .exit)) ⌝ }
 {
-    let a = lane_path(lanes, n, points, cumulative, fans, links, start, s, goal, t);
+    let a = lane_path(lanes, n, cumulative, fans, links, start, s, goal, t);
     if !a.ok {
         return refused(11);
     }
@@ -317,7 +315,7 @@ fn between(
     };
     let s = p.s;
     let t = q.s;
-    travel(
+    find_and_follow(
         lanes,
         n,
         points,

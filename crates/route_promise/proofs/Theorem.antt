@@ -31,7 +31,7 @@ use Rattle.plan_format.specs.Records as records
 use Rattle.plan_format.specs.Tables.{planRows}
 use Rattle.rows.specs.Rows.{directionOf, laneNumber}
 use Rattle.route.specs.InPlan.{lengths-are}
-use Rattle.route.specs.Route.{Routed, between, fitted, followed, pathBy, refusal, routeIn, routed, suffices, tablesOf}
+use Rattle.route.specs.Route.{Routed, between, fitted, followed, graphOf, pathBy, refusal, routeIn, routed, suffices, tablesOf}
 use Rattle.route.specs.Steps.{refusal-fits}
 use Rattle.sampling.specs.Sampling.{isAhead}
 use Rattle.search.specs.LaneGraph.{laneGraph, searchedIn}
@@ -228,7 +228,7 @@ module _ (p : Plan) (A : Accepted p) where
     pathResult true = search.found (start ∷ []) zero⁺
     pathResult false = searchResult
 
-    path-by : (x : Bool) → pathBy x (tablesOf p) (length (p .lanes)) start goal ≡ pathResult x
+    path-by : (x : Bool) → pathBy x (planRows p .lanes) (graphOf (tablesOf p) (length (p .lanes))) start goal ≡ pathResult x
     unfolding pathBy tablesOf
     path-by true = refl
     path-by false =
@@ -239,7 +239,7 @@ module _ (p : Plan) (A : Accepted p) where
         ≡ follow (pathResult (oneLane p a b))
     unfolding between tablesOf
     path-is =
-        ap follow (ap (λ (x : Bool). pathBy x (tablesOf p) (length (p .lanes)) start goal) suffices-is ∙ path-by (oneLane p a b))
+        ap follow (ap (λ (x : Bool). pathBy x (planRows p .lanes) (graphOf (tablesOf p) (length (p .lanes))) start goal) suffices-is ∙ path-by (oneLane p a b))
 
     whole-is : wholeRoute p from to ≡ follow (pathResult (oneLane p a b))
     whole-is = whole-between from to F G ∙ ap₂ answersOf (S .is) (Z .is) ∙ path-is

@@ -145,7 +145,7 @@ laid-flat (p ∷ ps) out h =
     ∙ ap (λ (o : List Float). withPoint o (length ps) p) (laid-flat ps out (omega arith))
     ∙ over-three (flat ps) out (3 * length ps) (p .x) (p .y) (p .z) (length-flat ps) (omega arith)
 
-pub pushed-kept : (qs : List Point) (p : Point) → pushing (keptOf qs) p ≡ keptOf (pushed qs p)
+pushed-kept : (qs : List Point) (p : Point) → pushing (keptOf qs) p ≡ keptOf (pushed qs p)
 unfolding pushed
 pushed-kept [] p = ap (λ (b : Bool). cond b (record { count = 1; last = p }) (keptOf [])) (fresh-first p)
 pushed-kept (q ∷ qs) p =
@@ -156,7 +156,7 @@ pushed-kept (q ∷ qs) p =
     go true = ap (λ (n : ℕ). record { count = n; last = p }) (add-one (length (q ∷ qs)))
     go false = refl
 
-pub pushed-laid : (qs : List Point) (p : Point) (old : List Float) → putting (keptOf qs) p (laid qs old) ≡ laid (pushed qs p) old
+pushed-laid : (qs : List Point) (p : Point) (old : List Float) → putting (keptOf qs) p (laid qs old) ≡ laid (pushed qs p) old
 unfolding pushed laid
 pushed-laid [] p old = ap (λ (b : Bool). cond b (putAt old 0 p) old) (fresh-first p)
 pushed-laid (q ∷ qs) p old =
@@ -196,11 +196,11 @@ module _ (point : Float → Point) (entry span : Float) (steps : ℕ) where
       let p = point (sampleAt entry span steps k) in
       front-on qs (pushed qs p) _ (pushed-front qs p) (from-front n (k + 1) (pushed qs p))
 
-  pub from-last : (k : ℕ) (qs : List Point) → sampleFrom point entry span steps 1 k qs ≡ pushed qs (point (sampleAt entry span steps k))
+  from-last : (k : ℕ) (qs : List Point) → sampleFrom point entry span steps 1 k qs ≡ pushed qs (point (sampleAt entry span steps k))
   unfolding sampleFrom
   from-last k qs = refl
 
-  pub from-next : (n k : ℕ) (qs : List Point)
+  from-next : (n k : ℕ) (qs : List Point)
       → sampleFrom point entry span steps (suc n) k qs ≡ sampleFrom point entry span steps n (k + 1) (pushed qs (point (sampleAt entry span steps k)))
   unfolding sampleFrom
   from-next n k qs = refl

@@ -1,4 +1,4 @@
--- What the loops of the search keep: what is left of a loop makes of the state now what the whole makes of the first state.
+-- Loop invariants of the search: the rest of a loop, run from the state now, gives what the whole loop gives from the first state.
 use mathlib.Core.Bool.{Bool, cond, false, not, true, _&&_, _||_}
 use mathlib.Core.List.{List, [], _++_, _∷_}
 use mathlib.Core.Logic.{inl, inr, _⊎_, _≢_}

@@ -13,7 +13,8 @@ ghost use Rattle.search.specs.Loops.{Found, Holds, Rebuilt, Sized, front
 // The cost of a lane change.
 const LANE_CHANGE_COST: f32 = 30.0;
 
-// The best cost to each lane, the lane it was reached from, and a mark: 1 where its links are relaxed.
+// The best cost to each lane, the lane it was reached from, and a mark. No heap is kept: the open lane of least `dist` is what the Rust would pop
+// (`heap-form`, crate optimality). `closed` is 1 for a lane that was taken and expanded.
 pub struct Search {
     pub dist: [f32; 256],
     pub prev: [u8; 256],
@@ -177,7 +178,8 @@ pub struct Ended {
     pub search: Search,
 }
 
-// The least open lane is settled, turn by turn, until it is the goal or there is none.
+// The least open lane is settled, turn by turn, until it is the goal or there is none. A turn settles one of at most 256 lanes, so the 257th finds none
+// open.
 fn find(
     search: Search,
     goal: usize,
@@ -276,7 +278,8 @@ fn no_path() -> Answer
     }
 }
 
-// The cheapest chain of links from `start` to `goal`, which leaves `start` at least once.
+// The Rust's `lane_path` after its one-lane case, which is crate route's: the cheapest chain of links from `start` to `goal`, which leaves `start`
+// at least once.
 pub fn lane_path(
     start: usize,
     goal: usize,

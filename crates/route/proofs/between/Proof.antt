@@ -43,8 +43,8 @@ returns-2 c =
     (a .from) (a .to) _ _ _ _ (c₁ .from .given .1) (c .before .enum-told2 .given .1))
     (refuses 10 _ (a .chain .now) (a .stops .now) (c .refused2 .ensures))
 
-travel-requires : tie.Need-travel-requires
-travel-requires c κs =
+find-and-follow-requires : tie.Need-find-and-follow-requires
+find-and-follow-requires c κs =
     let c₁ = c .before .before .before .before .before .before in
     let c₂ = c₁ .before .before .before .before .before .before .before .before .before in (
       row-of _ (c₂ .args .from) _ _ _ _ (c₂ .pre .0) (c₁ .from .given .1),
@@ -68,7 +68,7 @@ returns-3 c =
     let a = c₄ .args in
     let T = routeTables (a .lanes .now) (a .points .now) (a .cumulative .now) (a .fans .now) (a .links .now) in
     routes-as _ _ _ (a .chain .now) _ (a .stops .now) _ (both-found T (a .n) (length (a .chain .now)) (length (a .stops .now)) (a .from)
-    (a .to) _ _ _ _ (c₃ .from .given .1) _ _ _ _ (c₂ .to .given .1)) (c₁ .travel .ensures)
+    (a .to) _ _ _ _ (c₃ .from .given .1) _ _ _ _ (c₂ .to .given .1)) (c₁ .find-and-follow .ensures)
 
 pub between-spec : {M : Type 1} → statement M
 between-spec =
@@ -82,7 +82,7 @@ between-spec =
     enum-told-2
     refused-requires-2
     returns-2
-    travel-requires
+    find-and-follow-requires
     same-length
     same-length-2
     returns-3)

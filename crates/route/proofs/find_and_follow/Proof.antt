@@ -1,7 +1,7 @@
 -- 11 where there is no path; else the path stands at the front of the search's array.
 use borrow.Author.Needs.{needs}
-use Rattle.route.proofs.travel.Statement.{statement}
-use Rattle.route.proofs.travel.Tie as tie
+use Rattle.route.proofs.find_and_follow.Statement.{statement}
+use Rattle.route.proofs.find_and_follow.Tie as tie
 use borrow.Author.Tests.{not-false, not-true}
 use mathlib.Core.Path.{sym}
 use lib.ListN.{length, take}
@@ -9,7 +9,7 @@ use lib.Seq.{length-take-le}
 use Rattle.sampling.specs.Sampling.{routeTables}
 use Rattle.search.specs.Search.{found}
 use Rattle.route.specs.PathRows.{path-rows}
-use Rattle.route.specs.Route.{fitted, followed, pathOf, refusal, suffices}
+use Rattle.route.specs.Route.{fitted, followed, graphOf, pathOf, refusal, suffices}
 use Rattle.route.specs.Steps.{all-long, lane-rows, path-found, path-none, path-refused, path-taken, refuses, routes-as}
 
 lane-path-requires : tie.Need-lane-path-requires
@@ -28,7 +28,8 @@ returns c =
     let c₂ = c₁ .before .before .before .before .before .before .before .before in
     let a = c₂ .args in
     let T = routeTables (a .lanes .now) (a .points .now) (a .cumulative .now) (a .fans .now) (a .links .now) in
-    let X = pathOf T (a .n) (a .start) (a .s) (a .goal) (a .t) in
+    let G = graphOf T (a .n) in
+    let X = pathOf (a .lanes .now) G (a .start) (a .s) (a .goal) (a .t) in
     let e = path-none (c₁ .lane-path .result) X (c₁ .lane-path .ensures) (not-true (c₁ .lane-path .result .ok) (c .before .if1 .taken)) in
     routes-as (refusal 11) _ _ (a .chain .now) _ (a .stops .now) _ (path-refused T (a .n) (length (a .chain .now)) (length (a .stops .now))
     (a .s) (a .t) X e) (refuses 11 _ (a .chain .now) (a .stops .now) (c .refused .ensures))
@@ -54,8 +55,9 @@ follow-requires c κs =
     let c₃ = c₂ .before .before .before .before .before .before .before .before in
     let a = c₃ .args in
     let T = routeTables (a .lanes .now) (a .points .now) (a .cumulative .now) (a .fans .now) (a .links .now) in
-    let X = pathOf T (a .n) (a .start) (a .s) (a .goal) (a .t) in
-    let F = path-found (c₂ .lane-path .result) X (a .n) (path-rows (suffices (a .lanes .now) (a .start) (a .s) (a .goal) (a .t)) T (a .n)
+    let G = graphOf T (a .n) in
+    let X = pathOf (a .lanes .now) G (a .start) (a .s) (a .goal) (a .t) in
+    let F = path-found (c₂ .lane-path .result) X (a .n) (path-rows (suffices (a .lanes .now) (a .start) (a .s) (a .goal) (a .t)) (a .lanes .now) G
     (a .start) (a .goal) (c₃ .pre .0) (c₃ .pre .1)) (c₂ .lane-path .ensures) (not-false (c₂ .lane-path .result .ok) (c₁ .if1 .left)) in
     (F .rows, c₃ .pre .2)
 
@@ -73,17 +75,18 @@ returns-2 c =
     let c₄ = c₃ .before .before .before .before .before .before .before .before in
     let a = c₄ .args in
     let T = routeTables (a .lanes .now) (a .points .now) (a .cumulative .now) (a .fans .now) (a .links .now) in
-    let X = pathOf T (a .n) (a .start) (a .s) (a .goal) (a .t) in
+    let G = graphOf T (a .n) in
+    let X = pathOf (a .lanes .now) G (a .start) (a .s) (a .goal) (a .t) in
     let r = c₃ .lane-path .result in
-    let F = path-found r X (a .n) (path-rows (suffices (a .lanes .now) (a .start) (a .s) (a .goal) (a .t)) T (a .n) (a .start) (a .goal)
+    let F = path-found r X (a .n) (path-rows (suffices (a .lanes .now) (a .start) (a .s) (a .goal) (a .t)) (a .lanes .now) G (a .start) (a .goal)
     (c₄ .pre .0) (c₄ .pre .1)) (c₃ .lane-path .ensures) (not-false (r .ok) (c₂ .if1 .left)) in
     routes-as (fitted (length (a .chain .now)) (length (a .stops .now)) (followed T (a .s) (a .t)
     (found (take (r .count) (r .path)) (r .cost)))) _ _ (a .chain .now) _ (a .stops .now) _
     (path-taken T (a .n) (length (a .chain .now)) (length (a .stops .now)) (a .s) (a .t) (r .cost) (take (r .count) (r .path)) X (F .is))
     (c₁ .follow .ensures)
 
-pub travel-spec : {M : Type 1} → statement M
-travel-spec =
+pub find-and-follow-spec : {M : Type 1} → statement M
+find-and-follow-spec =
     tie.close
     (tie.spec
     lane-path-requires
