@@ -1,4 +1,6 @@
--- Document 01, module 6: samples of one lane stand at most 2 m of s apart, up to f32 rounding. A span is at most 2 m for each of its steps, exactly.
+-- A span is at most 2 m for each of its steps, exactly: |span| is at most 2 * steps. So the fractions k / steps of it lie at most 2 m of s apart.
+-- Document 01, module 6: "Samples of one lane stand at most 2 m of s apart up to f32 rounding". `sampleAt` works such a fraction out in f32; how far
+-- that rounds is what the sentence leaves open, and no bound of it stands here.
 use mathlib.Core.Bool.{Bool, false, not}
 use mathlib.Core.Logic.{inl, inr, _⊎_}
 use mathlib.Core.Path.{ap, refl, subst, sym, _∙_, _≡_}
