@@ -33,29 +33,30 @@ pub record KeepsPromise (p : Plan) (from to : Point) (chain : List ℕ) (stops :
   pub shows : Shows shown r chain′ stops′
   pub promised : Promised p from to (length chain) (length stops) (nearestIn p from) (nearestIn p to) (wholeRoute p from to) shown
 
--- for every file and all tables that are long enough: what the contract of `route` says of a call (`Calls`) gives the promise
-module _ (file : List ℕ) (B : Bytes file) (t t′ : LaneTables) (long : tooShort t ≡ false) (p : Plan) (is : decode 0 file ≡ accepted p)
-    (from to : Point) (F : PointIn from) (T : PointIn to) (chain chain′ : List ℕ) (stops stops′ : List Float) (r : RouteAnswer)
-    (C : Calls (λ (d : Decoded). routeOf d from to chain stops) 0 file (listsOf r chain′ stops′) t t′)
+-- DEMAND 3 of one call over a file of these bytes, with the tables t: where they are long enough, for every plan that the file decodes to, and
+-- for points whose coordinates all lie from -4,096 to 4,096
+abbrev pub Demand3 : List ℕ → LaneTables → Point → Point → List ℕ → List Float → RouteAnswer → List ℕ → List Float → Type 0
+Demand3 file t from to chain stops r chain′ stops′ =
+    tooShort t ≡ false → (p : Plan) → decode 0 file ≡ accepted p → PointIn from → PointIn to → KeepsPromise p from to chain stops r chain′ stops′
+
+-- what `lanes_route::route` ensures of a call gives it
+module _ (file : List ℕ) (B : Bytes file) (t t′ : LaneTables) (from to : Point) (chain chain′ : List ℕ) (stops stops′ : List Float)
+    (r : RouteAnswer) (C : Calls (λ (d : Decoded). routeOf d from to chain stops) 0 file (listsOf r chain′ stops′) t t′)
   where
-    opens : opened (tooShort t) 0 file ≡ accepted p
+    lists : tooShort t ≡ false → (p : Plan) → decode 0 file ≡ accepted p → listsOf r chain′ stops′ ≡ routeOf (accepted p) from to chain stops
     unfolding opened
-    opens = rw long is
+    lists long p is = rw (long, is) at (C .answer-is)
 
-    lists : listsOf r chain′ stops′ ≡ routeOf (accepted p) from to chain stops
-    lists = C .answer-is ∙ ap (λ (d : Decoded). routeOf d from to chain stops) opens
-
-    abbrev route : Routed
-    route = routeIn p from to (length chain) (length stops)
-
-    pub route-kept : KeepsPromise p from to chain stops r chain′ stops′
-    route-kept =
+    pub route-kept : Demand3 file t from to chain stops r chain′ stops′
+    route-kept long p is F T =
+        let R = routeIn p from to (length chain) (length stops) in
+        let e = lists long p is in
         record {
-          shown = route;
+          shown = R;
           shows = record {
-            answer = ap (λ (x : RouteLists). x .answer) lists;
-            lanes = ap (λ (x : RouteLists). take (length (route .chain)) (x .chain)) lists ∙ over-front (route .chain) chain _ refl;
-            points = ap (λ (x : RouteLists). take (length (route .points)) (x .stops)) lists ∙ over-front (route .points) stops _ refl;
+            answer = ap (λ (x : RouteLists). x .answer) e;
+            lanes = ap (λ (x : RouteLists). take (length (R .chain)) (x .chain)) e ∙ over-front (R .chain) chain _ refl;
+            points = ap (λ (x : RouteLists). take (length (R .points)) (x .stops)) e ∙ over-front (R .points) stops _ refl;
           };
           promised = route-promise file B p is from to F T (length chain) (length stops);
         }
