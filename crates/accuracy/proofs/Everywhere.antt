@@ -1,9 +1,9 @@
 -- Where a lane drives, `nearest_lane` answers for every finite point: some span has a cell, the rings reach it unless the search has found one
--- before, and the first span that is measured is found.
-use mathlib.Core.Path.{_≡_, refl, sym, subst}
+-- before, and the first span that is measured is found. The lane of what is found drives.
+use mathlib.Core.Path.{_≡_, refl, sym, subst, ap, _∙_}
 use mathlib.Core.Logic.{inl, inr}
 use mathlib.Core.Bool.{Bool, true, false, not, cond, _&&_, _||_}
-use mathlib.Core.List.{List, [], _∷_}
+use mathlib.Core.List.{List, [], _∷_, _++_}
 use Prim.Native.Nat.{ℕ, zero, suc, _+_, _<_, max}
 use native.Mathlib.Nat.{le-refl}
 use native.Mathlib.Omega.{arith}
@@ -17,7 +17,8 @@ use Rattle.grid.specs.declared.Grid.{Grid}
 use Rattle.grid.specs.declared.Cell.{Cell}
 use Rattle.grid.specs.Grid.{colOf, rowOf}
 use Rattle.grid.specs.Ring.{ringOf, isEmpty}
-use Rattle.network.specs.Lanes.{Lane, Span, driving}
+use Rattle.network.specs.Found.{Every, Of, lane-of}
+use Rattle.network.specs.Lanes.{Lane, Span, drives, driving, spansOf}
 use Rattle.network.specs.Nearest.{Item, itemOf, itemsFrom, holds, Best, none, found, measured, projected, considered, offered, visitCell}
 use Rattle.network.specs.Nearest.{visitRing, enough, ringsFrom, nearestIn, nearestOf, nearestLane, gridFor}
 use Rattle.network.specs.Nearest as nearest
@@ -194,8 +195,43 @@ module _ (table : List Bool) (ls : List Lane) (p : Point) (r : LanesIn ls) (P : 
       go true t = subst (λ (z : List Span). Some (nearestIn p z)) (sym is) searched-some
       go false t = absurd t
 
+-- ---- the lane of what is found drives: one that does not has no spans, so that it could as well be left out
+module _ (table : List Bool) where
+  abbrev drivers : List Lane → List Lane
+  drivers [] = []
+  drivers (l ∷ ls) = cond (drives table l) (l ∷ drivers ls) (drivers ls)
+
+  same-spans : (ls : List Lane) → driving table (drivers ls) ≡ driving table ls
+  unfolding driving
+  same-spans [] = refl
+  same-spans (l ∷ ls) = go (drives table l) refl (same-spans ls)
+    where
+      go : (x : Bool) → drives table l ≡ x → driving table (drivers ls) ≡ driving table ls
+          → driving table (cond x (l ∷ drivers ls) (drivers ls)) ≡ cond x (spansOf l ++ driving table ls) (driving table ls)
+      go true e rest =
+          ap (λ (y : Bool). cond y (spansOf l ++ driving table (drivers ls)) (driving table (drivers ls))) e
+          ∙ ap (λ (ss : List Span). spansOf l ++ ss) rest
+      go false e rest = rest
+
+  abbrev Driver : List Lane → Lane → Type 0
+  Driver ls l = In l ls × T (drives table l)
+
+  each-drives : (all ls : List Lane) → ((l : Lane) → In l ls → In l all) → Every (Driver all) (drivers ls)
+  each-drives all [] sub = tt
+  each-drives all (l ∷ ls) sub = go (drives table l) refl (each-drives all ls (λ m h. sub m (inr h)))
+    where
+      go : (x : Bool) → drives table l ≡ x → Every (Driver all) (drivers ls) → Every (Driver all) (cond x (l ∷ drivers ls) (drivers ls))
+      go true e rest = ((sub l (inl refl), subst T (sym e) tt), rest)
+      go false e rest = rest
+
+  found-drives : (ls : List Lane) (p : Point) → Of (λ l q. Driver ls l) (nearestLane table ls p)
+  unfolding nearestLane
+  found-drives ls p =
+      subst (λ (ss : List Span). Of (λ l q. Driver ls l) (nearestOf ss p)) (same-spans ls)
+      (lane-of (Driver ls) table (drivers ls) p (each-drives ls ls (λ l h. h)))
+
 pub found-everywhere : FoundEverywhere
-found-everywhere table ls p r d P = tell (nearestLane table ls p) refl (go (driving table ls) refl)
+found-everywhere table ls p r d P = tell (nearestLane table ls p) refl (go (driving table ls) refl) (found-drives table ls p)
   where
     first : SpanOf table ls (d .0) 0
     first = span-of table ls (d .0) 0 (d .1) (d .2) (r (d .0) (d .1) .two)
@@ -204,6 +240,9 @@ found-everywhere table ls p r d P = tell (nearestLane table ls p) refl (go (driv
     go [] e = absurd (subst (λ (l : List Span). In (first .span) l) e (first .has))
     go (s ∷ ss) e = some-found table ls p r P s ss e
 
-    tell : (b : Best) → nearestLane table ls p ≡ b → Some (nearestLane table ls p) → Found table ls p
-    tell none e h = absurd (subst Some e h)
-    tell (found v i l q) e h = record { dist = v; number = i; lane = l; proj = q; is = e }
+    tell : (b : Best) → nearestLane table ls p ≡ b → Some (nearestLane table ls p) → Of (λ l q. Driver table ls l) (nearestLane table ls p)
+        → Found table ls p
+    tell none e h k = absurd (subst Some e h)
+    tell (found v i l q) e h k =
+        let o : Driver table ls l = subst (Of (λ l q. Driver table ls l)) e k in
+        record { dist = v; number = i; lane = l; proj = q; is = e; inPlan = o .0; laneDrives = o .1 }

@@ -183,13 +183,15 @@ module _ (table : List Bool) (ls : List Lane) (p : Point) (r : LanesIn ls) (P : 
   answered : (d : Float) (n : ℕ) (l : Lane) (q : Projection) → Owner d l q → ((z : Span) → In z spans → Reached (found d n l q) z)
       → nearestLane table ls p ≡ found d n l q → Answered table ls p
   answered d n l q w re is = record {
-    dist = d;
-    number = n;
-    lane = l;
-    proj = q;
-    is = is;
-    inPlan = subst (λ (m : Lane). In m ls) (sym (w .lane)) (ok z (w .has) .inPlan);
-    laneDrives = subst (λ (m : Lane). T (drives table m)) (sym (w .lane)) (ok z (w .has) .laneDrives);
+    chosen = record {
+      dist = d;
+      number = n;
+      lane = l;
+      proj = q;
+      is = is;
+      inPlan = subst (λ (m : Lane). In m ls) (sym (w .lane)) (ok z (w .has) .inPlan);
+      laneDrives = subst (λ (m : Lane). T (drives table m)) (sym (w .lane)) (ok z (w .has) .laneDrives);
+    };
     finite = subst (λ (f : Projection). Wides (f .point)) (sym (w .proj)) (c .hit .wide);
     own = subst (λ (m : Lane). (t : Place m) × Within10cm (q .point) m t) (sym (w .lane))
         (subst (λ (f : Projection). (t : Place (z .lane)) × Within10cm (f .point) (z .lane) t) (sym (w .proj)) (

@@ -88,7 +88,8 @@ Within10cm c l t = inverse · toPlace l t c ⊑ sq (ι (t .whole * U))
 
 -- ---- what `nearest_lane` answers
 
-pub record Answered (table : List Bool) (ls : List Lane) (p : Point) : Type 0 where
+-- it finds something: a lane of the list that drives, and a place on it
+pub record Found (table : List Bool) (ls : List Lane) (p : Point) : Type 0 where
   pub dist : Float
   pub number : ℕ
   pub lane : Lane
@@ -96,30 +97,27 @@ pub record Answered (table : List Bool) (ls : List Lane) (p : Point) : Type 0 wh
   pub is : nearestLane table ls p ≡ found dist number lane proj
   pub inPlan : In lane ls
   pub laneDrives : T (drives table lane)
+
+-- and the point is near, by the tape
+pub record Answered (table : List Bool) (ls : List Lane) (p : Point) : Type 0 where
+  pub chosen : Found table ls p
   -- its coordinates are finite f32, of at most 16,384 m, so that `val` is their value
-  pub finite : PointSized (2 ^ 14 * U) (proj .point)
+  pub finite : PointSized (2 ^ 14 * U) (chosen .proj .point)
   -- the point is within 0.1 m of its own lane
-  pub own : (t : Place lane) × Within10cm (proj .point) lane t
+  pub own : (t : Place (chosen .lane)) × Within10cm (chosen .proj .point) (chosen .lane) t
   -- and at most 0.1 m farther than any place of any lane that drives
-  pub taped : (l : Lane) → In l ls → T (drives table l) → (t : Place l) → TapedBy p (proj .point) l t
+  pub taped : (l : Lane) → In l ls → T (drives table l) → (t : Place l) → TapedBy p (chosen .proj .point) l t
 
--- where a lane drives, `nearest_lane` answers so
-abbrev pub TapedDistance : Type 0
-TapedDistance = (table : List Bool) (ls : List Lane) (p : Point) → LanesIn ls → SomeDrives table ls → PointIn p → Answered table ls p
-
--- where none drives, it answers nothing
+-- where no lane drives, it answers nothing
 abbrev pub NoLaneDrives : Type 0
 NoLaneDrives =
     (table : List Bool) (ls : List Lane) (p : Point) → ((l : Lane) → In l ls → drives table l ≡ false) → nearestLane table ls p ≡ none
 
--- so for every finite point, none exactly when no lane drives: where one does, something is found
-pub record Found (table : List Bool) (ls : List Lane) (p : Point) : Type 0 where
-  pub dist : Float
-  pub number : ℕ
-  pub lane : Lane
-  pub proj : Projection
-  pub is : nearestLane table ls p ≡ found dist number lane proj
-
+-- where one drives, it finds one for every finite point
 abbrev pub FoundEverywhere : Type 0
 FoundEverywhere =
     (table : List Bool) (ls : List Lane) (p : Point) → LanesIn ls → SomeDrives table ls → T (finitePoint p) → Found table ls p
+
+-- and for a point in the range the tape holds
+abbrev pub TapedDistance : Type 0
+TapedDistance = (table : List Bool) (ls : List Lane) (p : Point) → LanesIn ls → SomeDrives table ls → PointIn p → Answered table ls p

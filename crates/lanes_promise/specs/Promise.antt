@@ -1,13 +1,13 @@
 -- Demand 3 of the public call `route`: what it answers for an accepted file, and leaves in its lists, is what `RoutePromise` (crate route_promise)
 -- promises.
-use mathlib.Core.Bool.{false}
+use mathlib.Core.Bool.{false, true}
 use mathlib.Core.List.{List}
 use mathlib.Core.Path.{ap, refl, _∙_, _≡_}
 use Prim.Native.Nat.{ℕ}
 use lib.Ieee.{Float}
 use lib.ListN.{length, take}
+use Rattle.coords.specs.Coords.{finitePoint}
 use Rattle.coords.specs.declared.Point.{Point}
-use Rattle.geometry_laws.specs.Range.{PointIn}
 use Rattle.lanes_route.specs.Route.{RouteLists, listsOf, routeOf}
 use Rattle.nearest.specs.Nearest.{nearestIn}
 use Rattle.lists.specs.Over.{over-front}
@@ -33,11 +33,12 @@ pub record KeepsPromise (p : Plan) (from to : Point) (chain : List ℕ) (stops :
   pub shows : Shows shown r chain′ stops′
   pub promised : Promised p from to (length chain) (length stops) (nearestIn p from) (nearestIn p to) (wholeRoute p from to) shown
 
--- DEMAND 3 of one call over a file of these bytes, with the tables t: where they are long enough, for every plan that the file decodes to, and
--- for points whose coordinates all lie from -4,096 to 4,096
+-- DEMAND 3 of one call over a file of these bytes, with the tables t: where they are long enough and the points are finite, for every plan that
+-- the file decodes to
 abbrev pub Demand3 : List ℕ → LaneTables → Point → Point → List ℕ → List Float → RouteAnswer → List ℕ → List Float → Type 0
 Demand3 file t from to chain stops r chain′ stops′ =
-    tooShort t ≡ false → (p : Plan) → decode 0 file ≡ accepted p → PointIn from → PointIn to → KeepsPromise p from to chain stops r chain′ stops′
+    tooShort t ≡ false → finitePoint from ≡ true → finitePoint to ≡ true → (p : Plan) → decode 0 file ≡ accepted p
+    → KeepsPromise p from to chain stops r chain′ stops′
 
 -- what `lanes_route::route` ensures of a call gives it
 module _ (file : List ℕ) (B : Bytes file) (t t′ : LaneTables) (from to : Point) (chain chain′ : List ℕ) (stops stops′ : List Float)
@@ -48,7 +49,7 @@ module _ (file : List ℕ) (B : Bytes file) (t t′ : LaneTables) (from to : Poi
     lists long p is = rw (long, is) at (C .answer-is)
 
     pub route-kept : Demand3 file t from to chain stops r chain′ stops′
-    route-kept long p is F T =
+    route-kept long F T p is =
         let R = routeIn p from to (length chain) (length stops) in
         let e = lists long p is in
         record {

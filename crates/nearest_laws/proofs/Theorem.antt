@@ -18,7 +18,7 @@ use Rattle.network.specs.Lanes.{Lane, drives, drivesTable}
 use Rattle.network.specs.Nearest.{nearestLane}
 use Rattle.plan.specs.Accepted.{Accepted, accepted-plan}
 use Rattle.plan_format.specs.Plan.{Plan}
-use Rattle.nearest_laws.specs.Promise.{NearestNumbers, NearestOfFile, NearestPromise, NoneDrives, Tells}
+use Rattle.nearest_laws.specs.Promise.{DrivingAnswer, NearestNumbers, NearestOfFile, NearestPromise, NoneDrives, TapedAnswer}
 use Rattle.nearest_laws.proofs.Ranges.{lanes-in}
 
 -- ---- every finite point
@@ -26,10 +26,10 @@ module _ (p : Plan) (q : Point) (A : Accepted p) (F : finitePoint q ≡ true) wh
   answer-is : nearestIn p q ≡ answerOf (nearestLane drivesTable (lanesOf p) q)
   answer-is = among (lanesOf p) q F
 
-  zero : SomeDrives drivesTable (lanesOf p) → nearestIn p q .number ≡ 0
-  zero s =
+  one-drives : SomeDrives drivesTable (lanesOf p) → DrivingAnswer p q
+  one-drives s =
       let f = found-everywhere drivesTable (lanesOf p) q (lanes-in p A) s (subst T (sym F) tt) in
-      ap (λ (r : NearestAnswer). r .number) (answer-is ∙ ap answerOf (f .is))
+      record { found = f; is = answer-is ∙ ap answerOf (f .is) }
 
   ten-only : nearestIn p q .number ≡ 10 → NoneDrives p
   ten-only e l h = go (drives drivesTable l) refl
@@ -37,28 +37,29 @@ module _ (p : Plan) (q : Point) (A : Accepted p) (F : finitePoint q ≡ true) wh
       go : (x : Bool) → drives drivesTable l ≡ x → x ≡ false
       go false f = refl
       go true f =
-          let z : _≡_ {A = ℕ} 0 10 = sym (zero (l, h, subst T (sym f) tt)) ∙ e in
+          let zero = ap (λ (r : NearestAnswer). r .number) (one-drives (l, h, subst T (sym f) tt) .is) in
+          let z : _≡_ {A = ℕ} 0 10 = sym zero ∙ e in
           absurd (omega arith)
 
   none-drives : NoneDrives p → nearestIn p q ≡ refusal 10
   none-drives h = answer-is ∙ ap answerOf (no-lane-drives drivesTable (lanesOf p) q h)
 
 pub nearest-numbers : NearestNumbers
-nearest-numbers p q A F = record { ten-only = ten-only p q A F; none-drives = none-drives p q A F; one-drives = zero p q A F }
+nearest-numbers p q A F = record { ten-only = ten-only p q A F; none-drives = none-drives p q A F; one-drives = one-drives p q A F }
 
 -- ---- a point in the range
 module _ (p : Plan) (q : Point) (A : Accepted p) (Q : PointIn q) where
-  pub is-finite : finitePoint q ≡ true
+  is-finite : finitePoint q ≡ true
   is-finite = go (finitePoint q) (finite-point q (coords-of q Q))
     where
       go : (x : Bool) → T x → x ≡ true
       go true t = refl
       go false t = absurd t
 
-  some-drives : SomeDrives drivesTable (lanesOf p) → Tells p q
+  some-drives : SomeDrives drivesTable (lanesOf p) → TapedAnswer p q
   some-drives s =
       let a = taped-distance drivesTable (lanesOf p) q (lanes-in p A) s Q in
-      record { answered = a; is = answer-is p q A is-finite ∙ ap answerOf (a .is) }
+      record { answered = a; is = answer-is p q A is-finite ∙ ap answerOf (a .chosen .is) }
 
 pub nearest-promise : NearestPromise
 nearest-promise p q A Q =

@@ -1,11 +1,11 @@
--- The nearest lane of an accepted plan. For every finite point: number 10 exactly when no lane drives, and 0 exactly when one does. For one
--- with coordinates from -4,096 to 4,096 the answer drives, and document 01's taped distance holds of it.
+-- The nearest lane of an accepted plan. For every finite point: number 10 exactly when no lane drives, and where one does, 0 and a lane that
+-- drives. For one with coordinates from -4,096 to 4,096 document 01's taped distance holds of the answer.
 -- Definitions only; proofs/Theorem.antt proves `NearestNumbers` and `NearestPromise`.
 use mathlib.Core.Bool.{false, true}
 use mathlib.Core.List.{List}
 use mathlib.Core.Path.{_≡_}
 use Prim.Native.Nat.{ℕ}
-use Rattle.accuracy.specs.Taped.{Answered, In, SomeDrives}
+use Rattle.accuracy.specs.Taped.{Answered, Found, In, SomeDrives}
 use Rattle.coords.specs.Coords.{finitePoint}
 use Rattle.coords.specs.declared.Point.{Point}
 use Rattle.geometry_laws.specs.Range.{PointIn}
@@ -21,27 +21,37 @@ use Rattle.plan_format.specs.Records.{laneId}
 abbrev pub NoneDrives : Plan → Type 0
 NoneDrives p = (l : Lane) → In l (lanesOf p) → drives drivesTable l ≡ false
 
--- the numbers
+-- 0, and the lane and the point that were found
+abbrev pub answerWith : (p : Plan) (q : Point) → Found drivesTable (lanesOf p) q → NearestAnswer
+answerWith p q f = record { number = 0; lane = laneId (f .lane .number); projection = f .proj }
+
+-- `nearest_lane` answers 0, with a lane of the plan that drives
+pub record DrivingAnswer (p : Plan) (q : Point) : Type 0 where
+  pub found : Found drivesTable (lanesOf p) q
+  pub is : nearestIn p q ≡ answerWith p q found
+
+-- `nearest_lane` answers 0, with the lane and the point of which `Answered` holds: the lane drives, the point is within 0.1 m of it and at most
+-- 0.1 m farther than any point of a driving lane
+pub record TapedAnswer (p : Plan) (q : Point) : Type 0 where
+  pub answered : Answered drivesTable (lanesOf p) q
+  pub is : nearestIn p q ≡ answerWith p q (answered .chosen)
+
+-- for every finite point
 pub record Numbers (p : Plan) (q : Point) : Type 0 where
   pub ten-only : nearestIn p q .number ≡ 10 → NoneDrives p
   pub none-drives : NoneDrives p → nearestIn p q ≡ refusal 10
-  pub one-drives : SomeDrives drivesTable (lanesOf p) → nearestIn p q .number ≡ 0
+  pub one-drives : SomeDrives drivesTable (lanesOf p) → DrivingAnswer p q
 
 abbrev pub NearestNumbers : Type 0
 NearestNumbers = (p : Plan) (q : Point) → Accepted p → finitePoint q ≡ true → Numbers p q
 
--- the answer is the lane and the place that the taped distance is of
-pub record Tells (p : Plan) (q : Point) : Type 0 where
-  pub answered : Answered drivesTable (lanesOf p) q
-  pub is : _≡_ {A = NearestAnswer} (nearestIn p q)
-      (record { number = 0; lane = laneId (answered .lane .number); projection = answered .proj })
-
+-- for a point in the range
 pub record Promise (p : Plan) (q : Point) : Type 0 where
   -- 10 only where none drives, and there
   pub ten : nearestIn p q .number ≡ 10 → NoneDrives p
   pub none : NoneDrives p → nearestIn p q ≡ refusal 10
-  -- where one drives, an answer
-  pub some : SomeDrives drivesTable (lanesOf p) → Tells p q
+  -- where one drives, an answer that the tape bears out
+  pub some : SomeDrives drivesTable (lanesOf p) → TapedAnswer p q
 
 abbrev pub NearestPromise : Type 0
 NearestPromise = (p : Plan) (q : Point) → Accepted p → PointIn q → Promise p q

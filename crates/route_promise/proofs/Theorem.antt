@@ -10,14 +10,14 @@ use lib.Ieee.{Float, le}
 use lib.ListN.{getD, length, length-map}
 use borrow.Author.Tests.{le-leb, leb-true}
 use Rattle.accuracy.proofs.Theorem.{no-lane-drives}
-use Rattle.accuracy.specs.Taped.{Answered}
+use Rattle.accuracy.specs.Taped.{Found}
 use Rattle.coords.specs.Coords.{finitePoint, zero⁺}
 use Rattle.coords.specs.declared.Point.{Point}
 use Rattle.geometry_laws.specs.Range.{PointIn}
 use Rattle.nearest.specs.Nearest.{lanesOf, nearestIn}
 use Rattle.nearest.specs.declared.NearestAnswer.{NearestAnswer}
-use Rattle.nearest_laws.proofs.Theorem.{is-finite, nearest-promise}
-use Rattle.nearest_laws.specs.Promise.{NoneDrives, Tells}
+use Rattle.nearest_laws.proofs.Theorem.{nearest-numbers, nearest-promise}
+use Rattle.nearest_laws.specs.Promise.{DrivingAnswer, NoneDrives, TapedAnswer, answerWith}
 use Rattle.network.specs.Lanes.{Lane, drivesTable}
 use Rattle.network.specs.Nearest.{Best, found, nearestLane}
 use Rattle.network.specs.Tables.{told}
@@ -74,30 +74,33 @@ module _ (p : Plan) (from to : Point) (lanes floats : ℕ) (a b : NearestAnswer)
   -- ---- no lane drives: 10
   promise-none : NoneDrives p → (r : Routed) → r ≡ refusal 10 → Promise r
   promise-none none r e =
-      let n : r .number ≡ 10 = ap (λ (x : Routed). x .number) e in
+      let ten : r .number ≡ 10 = ap (λ (x : Routed). x .number) e in
       record {
-        ten = (λ h. none, λ h. n);
+        ten = (λ h. none, λ h. ten);
         eleven = (λ h. absurd (omega arith), λ h. absurd (drives-not (h .0) none));
         answered = λ d. absurd (drives-not d none);
         fourteen = λ d. absurd (drives-not d none);
         lists = λ h. absurd (omega arith);
         chosen = λ d. absurd (drives-not d none);
+        near = λ d. absurd (drives-not d none);
         one-lane = λ h. absurd (omega arith);
         chain = λ h. absurd (omega arith);
       }
 
-  module _ (d : OneDrives p) (c : Tells p from × Tells p to) where
+  module _ (d : OneDrives p) (c : DrivingAnswer p from × DrivingAnswer p to)
+      (n : (PointIn from → TapedAnswer p from) × (PointIn to → TapedAnswer p to)) where
     -- ---- a lane drives, but no route leads there: 11
     promise-unreachable : Unreachable p a b → (r : Routed) → r ≡ refusal 11 → Promise r
     promise-unreachable u r e =
-        let n : r .number ≡ 11 = ap (λ (x : Routed). x .number) e in
+        let eleven : r .number ≡ 11 = ap (λ (x : Routed). x .number) e in
         record {
           ten = (λ h. absurd (omega arith), λ h. absurd (drives-not d h));
-          eleven = (λ h. (d, u), λ h. n);
+          eleven = (λ h. (d, u), λ h. eleven);
           answered = λ d r. absurd (reach-not r u);
           fourteen = λ d r. absurd (reach-not r u);
           lists = λ h. absurd (omega arith);
           chosen = λ d. c;
+          near = λ d. n;
           one-lane = λ h. absurd (omega arith);
           chain = λ h. absurd (omega arith);
         }
@@ -108,28 +111,30 @@ module _ (p : Plan) (from to : Point) (lanes floats : ℕ) (a b : NearestAnswer)
         (more : oneLane p a b ≡ false → LeastChain p a b (w .chain) × (w .length ≡ chainCostIn p (w .chain))) where
       promise-fits : Fits lanes floats w → (r : Routed) → r ≡ w → Promise r
       promise-fits f r e =
-          let n : r .number ≡ 0 = ap (λ (x : Routed). x .number) e ∙ zero-number in
+          let zero : r .number ≡ 0 = ap (λ (x : Routed). x .number) e ∙ zero-number in
           record {
             ten = (λ h. absurd (omega arith), λ h. absurd (drives-not d h));
             eleven = (λ h. absurd (omega arith), λ h. absurd (reach-not reach (h .1)));
-            answered = λ d r f. n;
+            answered = λ d r f. zero;
             fourteen = λ d r g. absurd (g f);
             lists = λ h. e;
             chosen = λ d. c;
+            near = λ d. n;
             one-lane = λ h k. rw e (one k);
             chain = λ h k. rw e (more k);
           }
 
       promise-long : (Fits lanes floats w → ⊥) → (r : Routed) → r ≡ refusal 14 → Promise r
       promise-long g r e =
-          let n : r .number ≡ 14 = ap (λ (x : Routed). x .number) e in
+          let fourteen : r .number ≡ 14 = ap (λ (x : Routed). x .number) e in
           record {
             ten = (λ h. absurd (omega arith), λ h. absurd (drives-not d h));
             eleven = (λ h. absurd (omega arith), λ h. absurd (reach-not reach (h .1)));
             answered = λ d r f. absurd (g f);
-            fourteen = λ d r g. n;
+            fourteen = λ d r g. fourteen;
             lists = λ h. absurd (omega arith);
             chosen = λ d. c;
+            near = λ d. n;
             one-lane = λ h. absurd (omega arith);
             chain = λ h. absurd (omega arith);
           }
@@ -145,11 +150,7 @@ module _ (p : Plan) (from to : Point) (lanes floats : ℕ) (a b : NearestAnswer)
 -- ---- an accepted plan
 module _ (p : Plan) (A : Accepted p) where
   abbrev Nearest : Point → Type 0
-  Nearest q = Answered drivesTable (lanesOf p) q
-
-  -- what `nearest_lane` answers where a lane drives
-  abbrev answerAt : (q : Point) → Nearest q → NearestAnswer
-  answerAt q S = record { number = 0; lane = records.laneId (S .lane .number); projection = S .proj }
+  Nearest q = Found drivesTable (lanesOf p) q
 
   -- ---- rows and numbers
   module _ (l : Lane) (R : InRow p l) where
@@ -185,15 +186,15 @@ module _ (p : Plan) (A : Accepted p) where
   abbrev answersOf : Best → Best → Routed
   answersOf x y = between (tablesOf p) (length (p .lanes)) (told x) (told y)
 
-  whole-between : (from to : Point) → PointIn from → PointIn to
+  whole-between : (from to : Point) → finitePoint from ≡ true → finitePoint to ≡ true
       → wholeRoute p from to ≡ answersOf (nearestLane drivesTable (lanesOf p) from) (nearestLane drivesTable (lanesOf p) to)
   unfolding routed
   whole-between from to F G =
       ap (λ (x : Bool). cond x (answersOf (nearestLane drivesTable (lanesOf p) from) (nearestLane drivesTable (lanesOf p) to)) (refusal 9))
-      (and-both (finitePoint from) (finitePoint to) (is-finite p from A F) (is-finite p to A G))
+      (and-both (finitePoint from) (finitePoint to) F G)
 
   -- ---- a lane drives: the whole route is the path between the rows of the two answers
-  module _ (from to : Point) (F : PointIn from) (G : PointIn to) (S : Nearest from) (Z : Nearest to) where
+  module _ (from to : Point) (F : finitePoint from ≡ true) (G : finitePoint to ≡ true) (S : Nearest from) (Z : Nearest to) where
     abbrev start : ℕ
     start = S .lane .row
 
@@ -207,10 +208,10 @@ module _ (p : Plan) (A : Accepted p) where
     goal-row = in-row p (Z .lane) (Z .inPlan)
 
     abbrev a : NearestAnswer
-    a = answerAt from S
+    a = answerWith p from S
 
     abbrev b : NearestAnswer
-    b = answerAt to Z
+    b = answerWith p to Z
 
     abbrev follow : search.Result Float → Routed
     follow r = followed (tablesOf p) (S .proj .s) (Z .proj .s) r
@@ -247,27 +248,28 @@ module _ (p : Plan) (A : Accepted p) where
     optimal : OptimalFrom p start goal searchResult
     optimal = search-optimal p A start goal (start-row .inside) (goal-row .inside)
 
-    module _ (lanes floats : ℕ) (d : OneDrives p) (chosen : Tells p from × Tells p to) where
+    module _ (lanes floats : ℕ) (d : OneDrives p) (chosen : DrivingAnswer p from × DrivingAnswer p to)
+        (near : (PointIn from → TapedAnswer p from) × (PointIn to → TapedAnswer p to)) where
       abbrev At : Routed → Type 0
       At w = Promised p from to lanes floats a b w (fitted lanes floats w)
 
       by-one : oneLane p a b ≡ true → At (follow (search.found (start ∷ []) zero⁺))
       unfolding followed tablesOf
       by-one e =
-          promise-route p from to lanes floats a b (follow (search.found (start ∷ []) zero⁺)) d chosen (inl e) refl
+          promise-route p from to lanes floats a b (follow (search.found (start ∷ []) zero⁺)) d chosen near (inl e) refl
           (λ h. (ap (λ (n : ℕ). n ∷ []) (sym (number-row (S .lane) start-row)), refl))
           (λ h. absurd (true≢false (sym e ∙ h)))
 
       by-search : oneLane p a b ≡ false → (r : search.Result Float) → OptimalFrom p start goal r → At (follow r)
       unfolding followed tablesOf
       by-search e search.refused o =
-          promise-unreachable p from to lanes floats a b (refusal 11) d chosen
+          promise-unreachable p from to lanes floats a b (refusal 11) d chosen near
           (e, λ chain. rw (number-row (S .lane) start-row, number-row (Z .lane) goal-row) (o .refused refl chain))
           (fitted lanes floats (refusal 11)) (sym (refusal-fits lanes floats 11))
       by-search e (search.found path cost) o =
           let chain = map (laneNumber (planRows p .lanes)) path in
           let is : isChainBetween p a b chain ≡ true = rw (number-row (S .lane) start-row, number-row (Z .lane) goal-row) (o .is-chain refl) in
-          promise-route p from to lanes floats a b (follow (search.found path cost)) d chosen (inr (chain, is)) refl
+          promise-route p from to lanes floats a b (follow (search.found path cost)) d chosen near (inr (chain, is)) refl
           (λ h. absurd (true≢false (sym h ∙ e)))
           (λ h. (record { is-chain = is; least = least }, o .cost-is refl))
         where
@@ -284,7 +286,7 @@ module _ (p : Plan) (A : Accepted p) where
           go true e = by-one e
           go false e = by-search e searchResult optimal
 
-  module _ (from to : Point) (F : PointIn from) (G : PointIn to) (lanes floats : ℕ) where
+  module _ (from to : Point) (F : finitePoint from ≡ true) (G : finitePoint to ≡ true) (lanes floats : ℕ) where
     abbrev Goal : Type 0
     Goal = Promised p from to lanes floats (nearestIn p from) (nearestIn p to) (wholeRoute p from to) (routeIn p from to lanes floats)
 
@@ -297,9 +299,11 @@ module _ (p : Plan) (A : Accepted p) where
     by-drives : OneDrives p ⊎ NoneDrives p → Goal
     unfolding routeIn
     by-drives (inl d) =
-        let f = nearest-promise p from A F .some d in
-        let t = nearest-promise p to A G .some d in
-        rw (f .is, t .is) (by-answers from to F G (f .answered) (t .answered) lanes floats d (f, t))
+        let f = nearest-numbers p from A F .one-drives d in
+        let t = nearest-numbers p to A G .one-drives d in
+        rw (f .is, t .is)
+        (by-answers from to F G (f .found) (t .found) lanes floats d (f, t)
+        (λ Q. nearest-promise p from A Q .some d, λ Q. nearest-promise p to A Q .some d))
     by-drives (inr none) =
         promise-none p from to lanes floats (nearestIn p from) (nearestIn p to) (wholeRoute p from to) none (routeIn p from to lanes floats)
         (ap (fitted lanes floats) (no-lane none) ∙ sym (refusal-fits lanes floats 10))

@@ -1,6 +1,6 @@
 -- DEMAND 3: the route query against an exhaustive reader. Definitions only; proofs/Theorem.antt proves `RoutePromise`.
 -- The reader is fed the records of an accepted plan and what `nearest_lane` answers for each of the two points (`nearestIn`), and nothing of
--- the search. What the taped distance says of such an answer stands in crate nearest_laws (`Tells`, over specs/Taped.antt of accuracy), the
+-- the search. What the taped distance says of such an answer stands in crate nearest_laws (`TapedAnswer`, over specs/Taped.antt of accuracy), the
 -- chains of link records and what they cost in crate optimality (specs/Chains.antt), `ahead` of route.rs in crate sampling (`isAhead`).
 -- Lanes go by their numbers.
 use mathlib.Core.Bool.{Bool, false, true, _&&_}
@@ -12,12 +12,12 @@ use lib.Dec.{eqb}
 use lib.Ieee.{le}
 use lib.ListN.{getD, length}
 use Rattle.accuracy.specs.Taped.{SomeDrives}
-use Rattle.coords.specs.Coords.{zero⁺}
+use Rattle.coords.specs.Coords.{finitePoint, zero⁺}
 use Rattle.coords.specs.declared.Point.{Point}
 use Rattle.geometry_laws.specs.Range.{PointIn}
 use Rattle.nearest.specs.Nearest.{lanesOf, nearestIn}
 use Rattle.nearest.specs.declared.NearestAnswer.{NearestAnswer}
-use Rattle.nearest_laws.specs.Promise.{NoneDrives, Tells}
+use Rattle.nearest_laws.specs.Promise.{DrivingAnswer, NoneDrives, TapedAnswer}
 use Rattle.network.specs.Lanes.{drivesTable}
 use Rattle.optimality.specs.Chains.{chainCostIn, isChain}
 use Rattle.plan_format.specs.Laws.{Bytes}
@@ -74,14 +74,17 @@ pub record Promised (p : Plan) (from to : Point) (lanes floats : ℕ) (a b : Nea
   pub fourteen : OneDrives p → Reachable p a b → (Fits lanes floats w → ⊥) → r .number ≡ 14
   -- an answer lists exactly that route
   pub lists : r .number ≡ 0 → r ≡ w
-  -- each chosen lane is one that drives, and each chosen point is within 0.1 m of it and at most 0.1 m farther than the tape's nearest
-  pub chosen : OneDrives p → Tells p from × Tells p to
+  -- each chosen lane is one that drives
+  pub chosen : OneDrives p → DrivingAnswer p from × DrivingAnswer p to
+  -- and where the point's coordinates all lie from -4,096 to 4,096, the chosen point is within 0.1 m of its lane and at most 0.1 m farther than
+  -- the tape's nearest
+  pub near : OneDrives p → (PointIn from → TapedAnswer p from) × (PointIn to → TapedAnswer p to)
   pub one-lane : r .number ≡ 0 → oneLane p a b ≡ true → (r .chain ≡ a .lane .0 ∷ []) × (r .length ≡ zero⁺)
   pub chain : r .number ≡ 0 → oneLane p a b ≡ false → LeastChain p a b (r .chain) × (r .length ≡ chainCostIn p (r .chain))
 
--- for every accepted plan, every two points whose coordinates all lie from -4,096 to 4,096, and lists of any room
+-- for every accepted plan, every two points whose coordinates are finite, and lists of any room
 abbrev pub RoutePromise : Type 0
 RoutePromise =
-    (file : List ℕ) → Bytes file → (p : Plan) → decode 0 file ≡ accepted p → (from to : Point) → PointIn from → PointIn to
-    → (lanes floats : ℕ)
+    (file : List ℕ) → Bytes file → (p : Plan) → decode 0 file ≡ accepted p
+    → (from to : Point) → finitePoint from ≡ true → finitePoint to ≡ true → (lanes floats : ℕ)
     → Promised p from to lanes floats (nearestIn p from) (nearestIn p to) (wholeRoute p from to) (routeIn p from to lanes floats)
