@@ -1,2 +1,2 @@
--- What the public route call promises.
+-- Demand 3 of the public call `route`.
 pub mod Promise

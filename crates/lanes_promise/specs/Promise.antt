@@ -1,5 +1,5 @@
--- Demand 3 of the public call `route`: what it answers for an accepted file, and leaves in its lists, is what `RoutePromise` (crate route_promise)
--- promises.
+-- DEMAND 3 of the public call `route`: what it answers for an accepted file, and leaves in its lists, is a route of which `RoutePromise` (crate
+-- route_promise) holds. src/lib.rt has `Demand3` in the call's contract; `route-kept` makes it of what `lanes_route::route` ensures.
 use mathlib.Core.Bool.{false, true}
 use mathlib.Core.List.{List}
 use mathlib.Core.Path.{ap, refl, _∙_, _≡_}

@@ -18,7 +18,7 @@ use Rattle.network.specs.Lanes.{Lane, drives, drivesTable}
 use Rattle.network.specs.Nearest.{nearestLane}
 use Rattle.plan.specs.Accepted.{Accepted, accepted-plan}
 use Rattle.plan_format.specs.Plan.{Plan}
-use Rattle.nearest_laws.specs.Promise.{DrivingAnswer, NearestNumbers, NearestOfFile, NearestPromise, NoneDrives, TapedAnswer}
+use Rattle.nearest_laws.specs.Promise.{DrivingAnswer, NearestNumbers, NearestOfFile, NearestTaped, NoneDrives, TapedAnswer}
 use Rattle.nearest_laws.proofs.Ranges.{lanes-in}
 
 -- ---- every finite point
@@ -61,12 +61,10 @@ module _ (p : Plan) (q : Point) (A : Accepted p) (Q : PointIn q) where
       let a = taped-distance drivesTable (lanesOf p) q (lanes-in p A) s Q in
       record { answered = a; is = answer-is p q A is-finite ∙ ap answerOf (a .chosen .is) }
 
-pub nearest-promise : NearestPromise
-nearest-promise p q A Q =
-    let n = nearest-numbers p q A (is-finite p q A Q) in
-    record { ten = n .ten-only; none = n .none-drives; some = some-drives p q A Q }
+pub nearest-taped : NearestTaped
+nearest-taped p q A Q = record { finite = is-finite p q A Q; one-drives = some-drives p q A Q }
 
 pub nearest-of-file : NearestOfFile
 nearest-of-file file B p e q =
     let A = accepted-plan 0 file p B e in
-    ((λ F. nearest-numbers p q A F), (λ Q. nearest-promise p q A Q))
+    ((λ F. nearest-numbers p q A F), (λ Q. nearest-taped p q A Q))

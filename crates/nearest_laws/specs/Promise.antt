@@ -1,6 +1,6 @@
 -- The nearest lane of an accepted plan. For every finite point: number 10 exactly when no lane drives, and where one does, 0 and a lane that
 -- drives. For one with coordinates from -4,096 to 4,096 document 01's taped distance holds of the answer.
--- Definitions only; proofs/Theorem.antt proves `NearestNumbers` and `NearestPromise`.
+-- Definitions only; proofs/Theorem.antt proves `NearestNumbers` and `NearestTaped`.
 use mathlib.Core.Bool.{false, true}
 use mathlib.Core.List.{List}
 use mathlib.Core.Path.{_≡_}
@@ -45,19 +45,16 @@ pub record Numbers (p : Plan) (q : Point) : Type 0 where
 abbrev pub NearestNumbers : Type 0
 NearestNumbers = (p : Plan) (q : Point) → Accepted p → finitePoint q ≡ true → Numbers p q
 
--- for a point in the range
-pub record Promise (p : Plan) (q : Point) : Type 0 where
-  -- 10 only where none drives, and there
-  pub ten : nearestIn p q .number ≡ 10 → NoneDrives p
-  pub none : NoneDrives p → nearestIn p q ≡ refusal 10
-  -- where one drives, an answer that the tape bears out
-  pub some : SomeDrives drivesTable (lanesOf p) → TapedAnswer p q
+-- for a point in the range: it is finite, and where a lane drives the tape bears the answer out
+pub record InTape (p : Plan) (q : Point) : Type 0 where
+  pub finite : finitePoint q ≡ true
+  pub one-drives : SomeDrives drivesTable (lanesOf p) → TapedAnswer p q
 
-abbrev pub NearestPromise : Type 0
-NearestPromise = (p : Plan) (q : Point) → Accepted p → PointIn q → Promise p q
+abbrev pub NearestTaped : Type 0
+NearestTaped = (p : Plan) (q : Point) → Accepted p → PointIn q → InTape p q
 
 -- both, of an accepted file
 abbrev pub NearestOfFile : Type 0
 NearestOfFile =
     (file : List ℕ) → Bytes file → (p : Plan) → decode 0 file ≡ accepted p → (q : Point)
-    → (finitePoint q ≡ true → Numbers p q) × (PointIn q → Promise p q)
+    → (finitePoint q ≡ true → Numbers p q) × (PointIn q → InTape p q)

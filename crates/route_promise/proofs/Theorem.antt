@@ -16,7 +16,7 @@ use Rattle.coords.specs.declared.Point.{Point}
 use Rattle.geometry_laws.specs.Range.{PointIn}
 use Rattle.nearest.specs.Nearest.{lanesOf, nearestIn}
 use Rattle.nearest.specs.declared.NearestAnswer.{NearestAnswer}
-use Rattle.nearest_laws.proofs.Theorem.{nearest-numbers, nearest-promise}
+use Rattle.nearest_laws.proofs.Theorem.{nearest-numbers, nearest-taped}
 use Rattle.nearest_laws.specs.Promise.{DrivingAnswer, NoneDrives, TapedAnswer, answerWith}
 use Rattle.network.specs.Lanes.{Lane, drivesTable}
 use Rattle.network.specs.Nearest.{Best, found, nearestLane}
@@ -303,7 +303,7 @@ module _ (p : Plan) (A : Accepted p) where
         let t = nearest-numbers p to A G .one-drives d in
         rw (f .is, t .is)
         (by-answers from to F G (f .found) (t .found) lanes floats d (f, t)
-        (λ Q. nearest-promise p from A Q .some d, λ Q. nearest-promise p to A Q .some d))
+        (λ Q. nearest-taped p from A Q .one-drives d, λ Q. nearest-taped p to A Q .one-drives d))
     by-drives (inr none) =
         promise-none p from to lanes floats (nearestIn p from) (nearestIn p to) (wholeRoute p from to) none (routeIn p from to lanes floats)
         (ap (fitted lanes floats) (no-lane none) ∙ sym (refusal-fits lanes floats 10))

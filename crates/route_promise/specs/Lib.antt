@@ -1,2 +1,2 @@
--- What is promised of the route query.
+-- Demand 3: what is promised of the route query.
 pub mod Promise

@@ -1,8 +1,10 @@
--- DEMAND 3: the route query against an exhaustive reader. Definitions only; proofs/Theorem.antt proves `RoutePromise`.
--- The reader is fed the records of an accepted plan and what `nearest_lane` answers for each of the two points (`nearestIn`), and nothing of
--- the search. What the taped distance says of such an answer stands in crate nearest_laws (`TapedAnswer`, over specs/Taped.antt of accuracy), the
--- chains of link records and what they cost in crate optimality (specs/Chains.antt), `ahead` of route.rs in crate sampling (`isAhead`).
--- Lanes go by their numbers.
+-- DEMAND 3: the route query against an exhaustive reader. Definitions only; proofs/Theorem.antt proves `RoutePromise`. Here and in crate
+-- lanes_promise a promise is demand 3, and what a function ensures is its contract.
+-- The reader is an imagined opponent. He sees the records of an accepted plan and what `nearest_lane` answers for each of the two points
+-- (`nearestIn`), and nothing of the search. He measures in exact arithmetic, by a tape, to every point of every driving lane, and may put
+-- forward any chain of links.
+-- What his tape says of an answer stands in crate nearest_laws (`TapedAnswer`, over specs/Taped.antt of accuracy), his chains of link records and
+-- what they cost in crate optimality (specs/Chains.antt), `ahead` of route.rs in crate sampling (`isAhead`). Lanes go by their numbers.
 use mathlib.Core.Bool.{Bool, false, true, _&&_}
 use mathlib.Core.List.{List, [], map, _∷_}
 use mathlib.Core.Logic.{_⊎_}
@@ -82,7 +84,7 @@ pub record Promised (p : Plan) (from to : Point) (lanes floats : ℕ) (a b : Nea
   pub one-lane : r .number ≡ 0 → oneLane p a b ≡ true → (r .chain ≡ a .lane .0 ∷ []) × (r .length ≡ zero⁺)
   pub chain : r .number ≡ 0 → oneLane p a b ≡ false → LeastChain p a b (r .chain) × (r .length ≡ chainCostIn p (r .chain))
 
--- for every accepted plan, every two points whose coordinates are finite, and lists of any room
+-- for every accepted plan, every two points whose coordinates are finite, as those in the range are, and lists of any room
 abbrev pub RoutePromise : Type 0
 RoutePromise =
     (file : List ℕ) → Bytes file → (p : Plan) → decode 0 file ≡ accepted p
