@@ -46,15 +46,15 @@ abbrev pub NearestNumbers : Type 0
 NearestNumbers = (p : Plan) (q : Point) → Accepted p → finitePoint q ≡ true → Numbers p q
 
 -- for a point in the range: it is finite, and where a lane drives the tape bears the answer out
-pub record InTape (p : Plan) (q : Point) : Type 0 where
+pub record TapedPoint (p : Plan) (q : Point) : Type 0 where
   pub finite : finitePoint q ≡ true
   pub one-drives : SomeDrives drivesTable (lanesOf p) → TapedAnswer p q
 
 abbrev pub NearestTaped : Type 0
-NearestTaped = (p : Plan) (q : Point) → Accepted p → PointIn q → InTape p q
+NearestTaped = (p : Plan) (q : Point) → Accepted p → PointIn q → TapedPoint p q
 
 -- both, of an accepted file
 abbrev pub NearestOfFile : Type 0
 NearestOfFile =
     (file : List ℕ) → Bytes file → (p : Plan) → decode 0 file ≡ accepted p → (q : Point)
-    → (finitePoint q ≡ true → Numbers p q) × (PointIn q → InTape p q)
+    → (finitePoint q ≡ true → Numbers p q) × (PointIn q → TapedPoint p q)

@@ -1,10 +1,9 @@
 -- DEMAND 3: the route query against an exhaustive reader. Definitions only; proofs/Theorem.antt proves `RoutePromise`. Here and in crate
 -- lanes_promise a promise is demand 3, and what a function ensures is its contract.
--- The reader is an imagined opponent. He sees the records of an accepted plan and what `nearest_lane` answers for each of the two points
--- (`nearestIn`), and nothing of the search. He measures in exact arithmetic, by a tape, to every point of every driving lane, and may put
--- forward any chain of links.
--- What his tape says of an answer stands in crate nearest_laws (`TapedAnswer`, over specs/Taped.antt of accuracy), his chains of link records and
--- what they cost in crate optimality (specs/Chains.antt), `ahead` of route.rs in crate sampling (`isAhead`). Lanes go by their numbers.
+-- The reader is an imagined opponent, who sees the records of an accepted plan and what `nearest_lane` answers for each of the two points
+-- (`nearestIn`), and nothing of the search; measures in exact arithmetic, by a tape, to any point of any driving lane; and may put forward any
+-- chain of links. The tape stands in crate nearest_laws (`TapedAnswer`, over specs/Taped.antt of accuracy), the chains and what they cost in crate
+-- optimality (specs/Chains.antt), `ahead` of route.rs in crate sampling (`isAhead`). Lanes go by their numbers.
 use mathlib.Core.Bool.{Bool, false, true, _&&_}
 use mathlib.Core.List.{List, [], map, _∷_}
 use mathlib.Core.Logic.{_⊎_}
