@@ -29,11 +29,17 @@ slice-aggregate-write-all c =
 write-all-requires : tie.Need-write-all-requires Inv-loop μ-loop
 write-all-requires c κs = search needs
 
+same-length : tie.Need-same-length Inv-loop μ-loop
+same-length c = search needs
+
+returns : tie.Need-returns Inv-loop μ-loop
+returns c = search needs
+
 loop-holds : tie.Need-loop-holds Inv-loop μ-loop
 loop-holds c =
-    let a = c .before .before .before .before .before .before .before .before .args in
-    let first = c .before .before .before .before .first-piece .ensures in
-    (written-room first (c .before .before .before .before .before .before .before .before .pre) .1, refl, first-start (a .file .now) first)
+    let a = c .before .before .before .before .before .before .before .before .before .args in
+    let first = c .before .before .before .before .before .first-piece .ensures in
+    (written-room first (c .before .before .before .before .before .before .before .before .before .pre) .1, refl, first-start (a .file .now) first)
 
 next-piece-requires : tie.Need-next-piece-requires Inv-loop μ-loop
 next-piece-requires c κs = c .before .before .loop .inv .0
@@ -51,31 +57,37 @@ slice-aggregate-write-all-2 c =
 write-all-requires-2 : tie.Need-write-all-requires-2 Inv-loop μ-loop
 write-all-requires-2 c κs = search needs
 
+same-length-2 : tie.Need-same-length-2 Inv-loop μ-loop
+same-length-2 c = search needs
+
+returns-2 : tie.Need-returns-2 Inv-loop μ-loop
+returns-2 c = search needs
+
 loop-less : tie.Need-loop-less Inv-loop μ-loop
 loop-less c =
-    let d = c .before .before .before .before .before .before .before in
-    let a = d .before .before .before .before .before .before .before .before .before .args in
+    let d = c .before .before .before .before .before .before .before .before in
+    let a = d .before .before .before .before .before .before .before .before .before .before .args in
     let l = d .loop in
-    let more = c .before .before .before .before .before .before .loop-test .taken in
-    next-less (a .file .now) (l .piece .next) (l .piece .more) (c .before .before .before .before .next-piece .ensures) more (l .inv .2) .1
+    let more = c .before .before .before .before .before .before .before .loop-test .taken in
+    next-less (a .file .now) (l .piece .next) (l .piece .more) (c .before .before .before .before .before .next-piece .ensures) more (l .inv .2) .1
 
 loop-again : tie.Need-loop-again Inv-loop μ-loop
 loop-again c =
-    let d = c .before .before .before .before .before .before .before in
-    let a = d .before .before .before .before .before .before .before .before .before .args in
+    let d = c .before .before .before .before .before .before .before .before in
+    let a = d .before .before .before .before .before .before .before .before .before .before .args in
     let l = d .loop in
-    let more = c .before .before .before .before .before .before .loop-test .taken in
-    let next = c .before .before .before .before .next-piece .ensures in
+    let more = c .before .before .before .before .before .before .before .loop-test .taken in
+    let next = c .before .before .before .before .before .next-piece .ensures in
     let W = written-room next (l .inv .0) in
     (W .1, W .0 ∙ l .inv .1, next-less (a .file .now) (l .piece .next) (l .piece .more) next more (l .inv .2) .0)
 
-same-length : tie.Need-same-length Inv-loop μ-loop
-same-length c =
-    let d = c .before .before .before .before .before .before in
+same-length-3 : tie.Need-same-length-3 Inv-loop μ-loop
+same-length-3 c =
+    let d = c .before .before .before .before .before .before .before in
     c .before .loop .inv .1 ∙ written-room (d .first-piece .ensures) (d .before .before .before .before .pre) .0
 
-returns : tie.Need-returns Inv-loop μ-loop
-returns c = search needs
+returns-3 : tie.Need-returns-3 Inv-loop μ-loop
+returns-3 c = search needs
 
 pub run-spec : {M : Type 1} → statement M
 run-spec =
@@ -87,12 +99,16 @@ run-spec =
     slice-reshare-prefix-write-all
     slice-aggregate-write-all
     write-all-requires
+    same-length
+    returns
     loop-holds
     next-piece-requires
     slice-reshare-prefix-write-all-2
     slice-aggregate-write-all-2
     write-all-requires-2
+    same-length-2
+    returns-2
     loop-less
     loop-again
-    same-length
-    returns)
+    same-length-3
+    returns-3)
