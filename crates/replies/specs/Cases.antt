@@ -32,7 +32,7 @@ use Rattle.tables.specs.LaneTables.{laneRows}
 use Rattle.text.specs.Bytes.{bytes}
 use Rattle.text.specs.Lines.{advanceLine, advanceText, atLine, besideLine, besideText, doubleField, laneLine, laneLines, newline, numberField}
 use Rattle.text.specs.Lines.{planLine, pointLine, pointLines, positionLines, routeLine, routeText, singleField}
-use Rattle.text.specs.Numerals.{decimalOf, digitsOf, doubleOf, hexOf, places, placesBy, singleOf}
+use Rattle.text.specs.Numerals.{decimalOf, digitsOf, doubleOf, hexOf, digitCount, digitCountBy, singleOf}
 use Rattle.replies.specs.Printed.{printed, printedBy, repliesTo, replyTo}
 
 -- a route query
@@ -53,7 +53,7 @@ printed-case :
     ++ bytes "point 41200000 00000000 00000000\n"
     ++ bytes "point 41400000 00000000 00000000\n"
 unfolding printedBy repliesTo replyTo bytes planLine routeText routeLine laneLines laneLine pointLines pointLine newline numberField singleField
-    decimalOf digitsOf places placesBy singleOf hexOf toBits u32At u64At run raisedAt queryAt laneFits sectionFits fits every any risesFrom rises
+    decimalOf digitsOf digitCount digitCountBy singleOf hexOf toBits u32At u64At run raisedAt queryAt laneFits sectionFits fits every any risesFrom rises
     laneRange sectionRange inRange within recordNumber withRecord walk walked indexOf repeats twice lacks judged settled decode little made point
     straight link route routeIn answerOf fitted routed between followed pathBy suffices tablesOf planRows laneRows rows rowsFrom linked lengthsTo
     isAhead searched runSearch rebuild leastOpen relaxed expanded settledLanes marked blank edges out sampleRoute sampleLanes sampleSpan sampleFrom
@@ -64,12 +64,12 @@ printed-case = refl
 
 -- 0: an empty file is a plan. 3: one byte is no record
 empty-file : printed [] ≡ bytes "plan 0 0 0\n"
-unfolding printedBy repliesTo bytes planLine newline numberField decimalOf digitsOf places placesBy walk walked repeats twice lacks any judged
+unfolding printedBy repliesTo bytes planLine newline numberField decimalOf digitsOf digitCount digitCountBy walk walked repeats twice lacks any judged
     settled decode
 empty-file = refl
 
 cut-file : printed (0 ∷ []) ≡ bytes "plan 3 0 0\n"
-unfolding printedBy bytes planLine newline numberField decimalOf digitsOf places placesBy recordNumber walk walked settled decode
+unfolding printedBy bytes planLine newline numberField decimalOf digitsOf digitCount digitCountBy recordNumber walk walked settled decode
 cut-file = refl
 
 -- no lane drives, and none has a place: each query is refused and prints zeros
@@ -81,7 +81,7 @@ empty-plan :
     ++ bytes "beside 12\n"
     ++ bytes "at 0 0000000000000000 0000000000000000\n"
 unfolding printedBy repliesTo replyTo bytes planLine routeText routeLine laneLines pointLines advanceText advanceLine positionLines besideText
-    besideLine atLine newline numberField singleField doubleField decimalOf digitsOf places placesBy singleOf doubleOf hexOf toBits u32At u64At run
+    besideLine atLine newline numberField singleField doubleField decimalOf digitsOf digitCount digitCountBy singleOf doubleOf hexOf toBits u32At u64At run
     raisedAt queryAt fits every any inRange within recordNumber withRecord walk walked indexOf repeats twice lacks judged settled decode little made
     point route advance beside routeIn answerOf fitted routed between tablesOf planRows laneRows rows rowsFrom linked lengthsTo nearestLane
     lanesAfter advanceIn advanceRows advanceRow firstRow besideIn add sub mul div lt le eq ofBits toUnsigned ofInt isNan

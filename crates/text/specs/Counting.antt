@@ -1,4 +1,4 @@
--- The loops that count a number's decimal digits and write them, last digit first.
+-- How the code writes numbers: a loop that counts decimal digits, a loop that writes them, last digit first, and hexadecimal digits, eight at a time.
 use mathlib.Core.Bool.{Bool, false, true}
 use mathlib.Core.List.{List, [], append-assoc, append-nil, _++_, _∷_}
 use mathlib.Core.Path.{ap, refl, sym, _∙_, _≡_}
@@ -9,7 +9,7 @@ use native.Mathlib.Omega.{arith}
 use lib.Dec.{ltb}
 use lib.ListN.{length, length-append, set}
 use borrow.Author.Tests.{le-ltb, lt-ltb, ltb-false}
-use Rattle.text.specs.Numerals.{digitsOf, hexDigit, hexOf, places, placesBy}
+use Rattle.text.specs.Numerals.{digitsOf, hexDigit, hexOf, digitCount, digitCountBy}
 use Rattle.text.specs.Put.{Puts, put, put-before}
 
 pub length-digits : (k n : ℕ) → length (digitsOf k n) ≡ k
@@ -18,8 +18,8 @@ length-digits zero n = refl
 length-digits (suc k) n = length-append (digitsOf k (n / 10)) ((48 + n % 10) ∷ []) ∙ ap (λ (j : ℕ). j + 1) (length-digits k (n / 10)) ∙ add-one k
 
 -- a number below 10 to the j + 1 has at most j + 1 digits
-few : (k j n : ℕ) (b : Bool) → ltb n 10 ≡ b → n < 10 ^ suc j → placesBy k b n ≤ suc j
-unfolding placesBy
+few : (k j n : ℕ) (b : Bool) → ltb n 10 ≡ b → n < 10 ^ suc j → digitCountBy k b n ≤ suc j
+unfolding digitCountBy
 few zero j n b e h = omega arith
 few (suc k) j n true e h = omega arith
 few (suc k) zero n false e h = let z = ltb-false n 10 e in absurd (omega arith)
@@ -27,30 +27,30 @@ few (suc k) (suc j) n false e h =
     let r = few k j (n / 10) (ltb (n / 10) 10) refl (omega arith) in
     omega arith
 
-pub places-few : (n : ℕ) → n < 18446744073709551616 → places n ≤ 20
-unfolding places
-places-few n h = few n 19 n (ltb n 10) refl (omega arith)
+pub digit-count-few : (n : ℕ) → n < 18446744073709551616 → digitCount n ≤ 20
+unfolding digitCount
+digit-count-few n h = few n 19 n (ltb n 10) refl (omega arith)
 
 -- k - 1 digits are counted off, and `rest` is left
 pub record Counting (n rest k : ℕ) : Type 0 where
   pub fuel : ℕ
   pub enough : rest ≤ fuel
-  pub same : k + placesBy fuel (ltb rest 10) rest ≡ places n + 1
-  pub some : 1 ≤ placesBy fuel (ltb rest 10) rest
+  pub same : k + digitCountBy fuel (ltb rest 10) rest ≡ digitCount n + 1
+  pub some : 1 ≤ digitCountBy fuel (ltb rest 10) rest
 
-one-more : (f : ℕ) (b : Bool) (n : ℕ) → 1 ≤ placesBy f b n
-unfolding placesBy
+one-more : (f : ℕ) (b : Bool) (n : ℕ) → 1 ≤ digitCountBy f b n
+unfolding digitCountBy
 one-more zero b n = omega arith
 one-more (suc f) true n = omega arith
 one-more (suc f) false n = omega arith
 
 pub count-start : (n : ℕ) → Counting n n 1
-unfolding places
+unfolding digitCount
 count-start n =
     record { fuel = n; enough = omega arith; same = omega arith; some = one-more n (ltb n 10) n }
 
-next-by : (n rest k f : ℕ) → 10 ≤ rest → rest ≤ f → k + placesBy f (ltb rest 10) rest ≡ places n + 1 → Counting n (rest / 10) (k + 1)
-unfolding placesBy
+next-by : (n rest k f : ℕ) → 10 ≤ rest → rest ≤ f → k + digitCountBy f (ltb rest 10) rest ≡ digitCount n + 1 → Counting n (rest / 10) (k + 1)
+unfolding digitCountBy
 next-by n rest k zero h e s = absurd (omega arith)
 next-by n rest k (suc f) h e s =
     let t = rw (le-ltb rest 10 h) at s in
@@ -59,12 +59,12 @@ next-by n rest k (suc f) h e s =
 pub count-next : (n rest k : ℕ) → Counting n rest k → 10 ≤ rest → Counting n (rest / 10) (k + 1)
 count-next n rest k C h = next-by n rest k (C .fuel) h (C .enough) (C .same)
 
-end-by : (f rest : ℕ) → rest < 10 → placesBy f (ltb rest 10) rest ≡ 1
-unfolding placesBy
+end-by : (f rest : ℕ) → rest < 10 → digitCountBy f (ltb rest 10) rest ≡ 1
+unfolding digitCountBy
 end-by zero rest h = refl
 end-by (suc f) rest h = rw (lt-ltb rest 10 h)
 
-pub count-end : (n rest k : ℕ) → Counting n rest k → rest < 10 → k ≡ places n
+pub count-end : (n rest k : ℕ) → Counting n rest k → rest < 10 → k ≡ digitCount n
 count-end n rest k C h = omega (arith, C .same, end-by (C .fuel) rest h)
 
 -- the digits from i on are written, and `rest` has those before them

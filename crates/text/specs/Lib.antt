@@ -4,4 +4,4 @@ pub mod Put
 pub mod Numerals
 pub mod Counting
 pub mod Lines
-pub mod Printed
+pub mod Cases

@@ -4,14 +4,14 @@ ghost use mathlib.Core.Path.{_≡_};
 ghost use Prim.Native.Nat.{_+_, _*_, _<_, _≤_};
 ghost use lib.ListN.{length};
 ghost use Rattle.text.specs.Put.{Puts};
-ghost use Rattle.text.specs.Numerals.{digitsOf, places, hexDigit, hexOf, singleOf, doubleOf};
+ghost use Rattle.text.specs.Numerals.{digitCount, digitsOf, hexDigit, hexOf};
 ghost use Rattle.text.specs.Lines.{numberField, singleField, doubleField, newline};
 ghost use Rattle.text.specs.Lines.{planLine, routeLine, laneLine, pointLine, advanceLine, atLine, endLine, besideLine};
 ghost use Rattle.text.specs.Lines.{laneLines, pointLines, positionLine, positionLines, routeText, advanceText, besideText};
 
 // How many decimal digits n has.
-fn places(n: usize) -> usize
-    ensures { λ r. ⌜ (r ≡ places n) × (r ≤ 20) ⌝ }
+fn digit_count(n: usize) -> usize
+    ensures { λ r. ⌜ (r ≡ digitCount n) × (r ≤ 20) ⌝ }
 {
     let mut k = 1;
     let mut rest = n;
@@ -87,7 +87,7 @@ fn number_field(n: usize, out: &mut [u8], at: usize) -> usize
     ensures { λ r. ⌜ Puts (numberField n) at (now (out .entry)) (now (out .exit)) r × (r ≤ at + 21) ⌝ }
 {
     out[at] = b' ';
-    spell(n, places(n), out, at + 1)
+    spell(n, digit_count(n), out, at + 1)
 }
 
 // A space and the bits of x.

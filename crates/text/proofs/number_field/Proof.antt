@@ -13,8 +13,8 @@ use Rattle.text.proofs.number_field.Tie as tie
 slice-write-out : tie.Need-slice-write-out
 slice-write-out c = search needs
 
-places-requires : tie.Need-places-requires
-places-requires c κs = search needs
+digit-count-requires : tie.Need-digit-count-requires
+digit-count-requires c κs = search needs
 
 add-spell : tie.Need-add-spell
 add-spell c = search needs
@@ -29,12 +29,12 @@ returns : tie.Need-returns
 unfolding numberField decimalOf
 returns c =
     let a = c .before .before .before .before .before .before .args in
-    let counted = c .before .before .before .before .places .ensures in
+    let counted = c .before .before .before .before .digit-count .ensures in
     let spelt = c .before .before .spell .ensures in
-    let long = length-digits (c .before .before .before .before .places .result) (a .n) in
+    let long = length-digits (c .before .before .before .before .digit-count .result) (a .n) in
     (puts-then (puts-one (a .out .now) (a .at) 32) (rw (counted .0) at spelt), omega arith)
 
 pub number-field-spec : {M : Type 1} → statement M
 number-field-spec =
     tie.close
-    (tie.spec slice-write-out places-requires add-spell spell-requires same-length returns)
+    (tie.spec slice-write-out digit-count-requires add-spell spell-requires same-length returns)
