@@ -1,4 +1,5 @@
--- What a plan's file prints is answered over that plan: the side that a query of the file gives is 0 or 1, by number 5.
+-- Each query of a file is answered over the file's one plan: the law `printed-over`, at the end. By `printed` every reply decodes the file for
+-- itself, a beside query's with its own side; number 5 lets a file have the sides 0 and 1 only, and with these it decodes to the same plan.
 use mathlib.Core.Bool.{Bool, cond, false, true, true≢false}
 use mathlib.Core.List.{List, [], map, _++_, _∷_}
 use mathlib.Core.Path.{ap, ap₂, refl, subst, sym, _∙_, _≡_}
@@ -28,14 +29,15 @@ use Rattle.text.specs.Lines.{planLine}
 use Rattle.replies.specs.Printed.{advanceTextOf, besideTextOf, chainList, metreList, printed, printedBy, repliesTo, replyTo, routeTextOf}
 use Rattle.replies.specs.Printed.{rowList, stopList}
 
--- the reply to a query, over a plan
+-- the reply to a query, over the plan p
 unfoldable pub replyOver : Plan → Query → List ℕ
 replyOver p (Route x y z u v w) = routeTextOf (routeOf (accepted p) (point x y z) (point u v w) chainList stopList)
 replyOver p (Advance lane s offset distance) = advanceTextOf (advanceOf (accepted p) (position lane s offset) distance rowList metreList)
 replyOver p (Beside lane s side) = besideTextOf (besideOf (accepted p) (centerline lane s) side)
 
--- ---- a side of 0 or 1 decodes as none does
+-- ---- with a side of 0 or 1 a file decodes as it does with 0, and the reply is the one over its plan
 
+-- the side that a query decodes with
 sideOf : Query → ℕ
 sideOf (Route x y z u v w) = 0
 sideOf (Advance lane s offset distance) = 0
@@ -57,12 +59,13 @@ module _ (f : List ℕ) (p : Plan) (e : decode 0 f ≡ accepted p) where
   reply-over (Advance lane s offset distance) h = rw e
   reply-over (Beside lane s side) h = rw (decode-sided side f h ∙ e)
 
--- ---- the sides of a file's queries
+-- ---- a walk that ends has met sides of 0 and 1 only
 
 abbrev small : Query → Bool
 small q = leb (sideOf q) 1
 
 module _ (s : List ℕ) where
+  -- one query, by its fit and its range
   query-side : (at kind size : ℕ) → fits s at kind size ≡ true → inRange s at kind ≡ true → eqb kind 1 ≡ false → eqb kind 2 ≡ false
       → eqb kind 3 ≡ false → eqb kind 4 ≡ false
       → sideOf (cond (eqb kind 16) (routeAt s at) (cond (eqb kind 17) (advanceAt s at) (besideAt s at))) ≤ 1
@@ -78,6 +81,7 @@ module _ (s : List ℕ) where
       go false false true f r = leb-true (u8At s (at + 16)) 1 r
       go false false false f r = absurd (true≢false (sym f))
 
+  -- one query more
   every-last : (xs : List ℕ) (x : ℕ) → every small (map (queryAt s) xs) ≡ true → small (queryAt s x) ≡ true
       → every small (map (queryAt s) (xs ++ (x ∷ []))) ≡ true
   unfolding every
@@ -86,9 +90,11 @@ module _ (s : List ℕ) where
       and-both (small (queryAt s y)) (every small (map (queryAt s) (ys ++ (x ∷ [])))) (and-fst (small (queryAt s y)) _ e)
       (every-last ys x (and-snd (small (queryAt s y)) _ e) h)
 
+  -- the queries met so far
   abbrev Sided : Starts → Type 0
   Sided a = every small (map (queryAt s) (a .queries)) ≡ true
 
+  -- one record more, which has passed
   sided-one : (at n : ℕ) (a : Starts) → Passes s (u16At s (at + 4)) at → Sided a → Sided (withRecord at (u16At s (at + 4)) n a)
   unfolding withRecord queryAt
   sided-one at n a o S =
@@ -105,6 +111,7 @@ module _ (s : List ℕ) where
           every-last (a .queries) at S
           (le-leb (sideOf (queryAt s at)) 1 (query-side at (u16At s (at + 4)) (u32At s at) (o .fit) (o .range) e₁ e₂ e₃ e₄))
 
+  -- the walk, record by record
   sided-end : (a b : Starts) → ended a ≡ ended b → Sided a → Sided b
   sided-end a b e S = let same : a ≡ b = cc in subst Sided same S
 
@@ -133,23 +140,26 @@ module _ (s : List ℕ) where
   unfolding walked every
   walked-sided b e = sided (length s) 0 none b refl e
 
--- ---- THE LAW
+-- ---- the queries of a plan
 
-module _ (f : List ℕ) (p : Plan) (e : decode 0 f ≡ accepted p) where
-  replies-over : (qs : List Query) → every small qs ≡ true → repliesTo f qs ≡ rows (replyOver p) qs
-  unfolding every repliesTo rows
-  replies-over [] h = refl
-  replies-over (q ∷ qs) h =
-      ap₂ (λ (l m : List ℕ). l ++ m) (reply-over f p e q (leb-true (sideOf q) 1 (and-fst (small q) (every small qs) h)))
-      (replies-over qs (and-snd (small q) (every small qs) h))
+queries-sided : (f : List ℕ) (p : Plan) → decode 0 f ≡ accepted p → every small (p .queries) ≡ true
+queries-sided f p e =
+    let D = decodes 0 f p e in
+    subst (λ (x : Plan). every small (x .queries) ≡ true) (D .plan) (walked-sided f (D .starts) (D .is))
 
-  queries-sided : every small (p .queries) ≡ true
-  queries-sided =
-      let D = decodes 0 f p e in
-      subst (λ (x : Plan). every small (x .queries) ≡ true) (D .plan) (walked-sided f (D .starts) (D .is))
+replies-over : (f : List ℕ) (p : Plan) → decode 0 f ≡ accepted p → (qs : List Query) → every small qs ≡ true
+    → repliesTo f qs ≡ rows (replyOver p) qs
+unfolding every repliesTo rows
+replies-over f p e [] h = refl
+replies-over f p e (q ∷ qs) h =
+    ap₂ (λ (l m : List ℕ). l ++ m) (reply-over f p e q (leb-true (sideOf q) 1 (and-fst (small q) (every small qs) h)))
+    (replies-over f p e qs (and-snd (small q) (every small qs) h))
 
-  pub printed-over : printed f ≡ planLine 0 (length (p .lanes)) (length (p .links)) ++ rows (replyOver p) (p .queries)
-  unfolding printedBy
-  printed-over =
-      ap (printedBy f) e
-      ∙ ap (λ (l : List ℕ). planLine 0 (length (p .lanes)) (length (p .links)) ++ l) (replies-over (p .queries) queries-sided)
+-- ---- THE LAW: a file that is the plan p prints its plan line, then the reply over p to each of its queries
+
+pub printed-over : (f : List ℕ) (p : Plan) → decode 0 f ≡ accepted p
+    → printed f ≡ planLine 0 (length (p .lanes)) (length (p .links)) ++ rows (replyOver p) (p .queries)
+unfolding printedBy
+printed-over f p e =
+    ap (printedBy f) e
+    ∙ ap (λ (l : List ℕ). planLine 0 (length (p .lanes)) (length (p .links)) ++ l) (replies-over f p e (p .queries) (queries-sided f p e))

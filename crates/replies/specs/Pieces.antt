@@ -1,14 +1,27 @@
--- The pieces that the program writes, one after the other, are the whole text of the file.
+-- The pieces that the program writes, one after the other, are the whole text of the file: each call leaves its piece in the bytes that the
+-- program then writes, and the pieces' texts joined are the file's.
 use mathlib.Core.Bool.{false, true, true≢false}
 use mathlib.Core.List.{List, [], _++_, _∷_}
 use mathlib.Core.Path.{ap, refl, subst, sym, _∙_, _≡_}
-use Prim.Native.Nat.{ℕ}
+use Prim.Native.Nat.{ℕ, _≤_}
+use native.Mathlib.Omega.{arith}
+use lib.ListN.{length, take}
 use Rattle.plan_format.specs.Plan.{Decoded, accepted, decode, refused}
 use Rattle.plan_format.specs.declared.NextQuery.{NextQuery}
 use Rattle.plan_format.specs.declared.NextQuery.the-variants.{End, Found}
 use Rattle.plan_format.specs.declared.Query.{Query}
 use Rattle.plan_queries.specs.Followed.{Follows, queries-follow}
-use Rattle.replies.specs.Printed.{Part, firstBy, firstPart, nextBy, nextPart, printed, printedBy, repliesTo, replyTo}
+use Rattle.text.specs.Put.{puts-front}
+use Rattle.replies.specs.Printed.{Part, Writes, firstBy, firstPart, nextBy, nextPart, printed, printedBy, repliesTo, replyTo, room}
+use Rattle.replies.specs.declared.Piece.{Piece}
+
+-- ---- the bytes of a piece
+
+-- THE LAW of a call: out[..len], which `plan-run` writes after it, are the bytes of the piece's text
+pub written-text : {x : Part} {r : Piece} {old new : List ℕ} → Writes x r old new → room ≤ length old → take (r .len) new ≡ x .text
+written-text W h = puts-front (W .puts) (omega (arith, W .puts .after, W .few))
+
+-- ---- the pieces, one after the other
 
 -- the text that a piece and those after it make
 pub data Pieces (f : List ℕ) : Part → List ℕ → Type 0 where
@@ -28,7 +41,7 @@ module _ (f : List ℕ) where
   pieces-by (refused n) e = last (firstBy (refused n)) refl
   pieces-by (accepted p) e = then (firstBy (accepted p)) (repliesTo f (p .queries)) refl (follow 0 (p .queries) (queries-follow 0 f p e))
 
-  -- THE LAW
+  -- THE LAW of the pieces: from the first on they make the whole text
   pub printed-pieces : Pieces f (firstPart f) (printed f)
   printed-pieces = pieces-by (decode 0 f) refl
 

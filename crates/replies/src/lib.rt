@@ -28,7 +28,8 @@ pub struct Piece {
     pub next: usize,
 }
 
-fn route_over(
+// The public call `route`, over tables of its own.
+fn ask_route(
     file: &[u8],
     x: f32,
     y: f32,
@@ -77,7 +78,8 @@ fn route_over(
     )
 }
 
-fn advance_over(
+// The public call `advance`, over tables of its own.
+fn ask_advance(
     file: &[u8],
     lane: LaneId,
     s: f64,
@@ -122,7 +124,8 @@ fn advance_over(
     )
 }
 
-fn beside_over(file: &[u8], lane: LaneId, s: f64, side: usize) -> BesideAnswer
+// The public call `beside`, over tables of its own.
+fn ask_beside(file: &[u8], lane: LaneId, s: f64, side: usize) -> BesideAnswer
     ensures { λ r. ⌜ r ≡ besideOf (decode side (now (file .entry))) (centerline lane s) side ⌝ }
 {
     let mut lanes = [0usize; 1536];
@@ -161,7 +164,7 @@ fn route_reply(file: &[u8], x: f32, y: f32, z: f32, u: f32, v: f32, w: f32, out:
 {
     let mut chain = [0usize; 257];
     let mut stops = [0f32; 12288];
-    let a = route_over(file, x, y, z, u, v, w, &mut chain, &mut stops);
+    let a = ask_route(file, x, y, z, u, v, w, &mut chain, &mut stops);
     text::route_text(
         a.number,
         a.lanes,
@@ -187,7 +190,7 @@ fn advance_reply(
 {
     let mut rows = [0usize; 512];
     let mut metres = [0f64; 768];
-    let a = advance_over(file, lane, s, offset, distance, &mut rows, &mut metres);
+    let a = ask_advance(file, lane, s, offset, distance, &mut rows, &mut metres);
     text::advance_text(a.number, a.keys, a.positions, &rows, &metres, out, 0)
 }
 
@@ -195,7 +198,7 @@ fn beside_reply(file: &[u8], lane: LaneId, s: f64, side: usize, out: &mut [u8]) 
     requires { ⌜ room ≤ length (now out) ⌝ }
     ensures { λ r. ⌜ Puts (replyTo (now (file .entry)) (Beside lane s side)) 0 (now (out .entry)) (now (out .exit)) r × (r ≤ room) ⌝ }
 {
-    let a = beside_over(file, lane, s, side);
+    let a = ask_beside(file, lane, s, side);
     let at = a.at;
     let id = at.lane;
     text::beside_text(a.number, id.0, at.s, at.offset, out, 0)
@@ -220,7 +223,9 @@ pub fn first_piece(file: &[u8], out: &mut [u8]) -> Piece
     requires { ⌜ room ≤ length (now out) ⌝ }
     ensures { λ r. ⌜ Writes (firstPart (now (file .entry))) r (now (out .entry)) (now (out .exit)) ⌝ }
 {
+    // where the records start, as plan_scan has it: 256 lanes, 2,048 links, 64 sections, 256 places, and one entry that the queries share
     let mut starts = [0usize; 2625];
+    // the row of each lane number
     let mut index = [0u16; 65536];
     let r = plan::check(file, 0, &mut starts, &mut index);
     let c = r.counts;

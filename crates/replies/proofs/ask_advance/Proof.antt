@@ -1,8 +1,8 @@
 -- The tables are as long as the limits ask, so that the call answers by the file alone.
 use borrow.Author.Needs.{needs}
 use Rattle.replies.specs.Lent.{from-lent}
-use Rattle.replies.proofs.advance_over.Statement.{statement}
-use Rattle.replies.proofs.advance_over.Tie as tie
+use Rattle.replies.proofs.ask_advance.Statement.{statement}
+use Rattle.replies.proofs.ask_advance.Tie as tie
 
 slice-aggregate-advance : tie.Need-slice-aggregate-advance
 slice-aggregate-advance c = search needs
@@ -51,8 +51,8 @@ returns c =
     from-lent
     (c .before .before .before .before .before .before .before .before .before .before .before .before .before .before .before .advance .ensures)
 
-pub advance-over-spec : {M : Type 1} → statement M
-advance-over-spec =
+pub ask-advance-spec : {M : Type 1} → statement M
+ask-advance-spec =
     tie.close
     (tie.spec
     slice-aggregate-advance

@@ -1,8 +1,8 @@
 -- The tables are as long as the limits ask, so that the call answers by the file alone.
 use borrow.Author.Needs.{needs}
 use Rattle.replies.specs.Lent.{from-lent}
-use Rattle.replies.proofs.beside_over.Statement.{statement}
-use Rattle.replies.proofs.beside_over.Tie as tie
+use Rattle.replies.proofs.ask_beside.Statement.{statement}
+use Rattle.replies.proofs.ask_beside.Tie as tie
 
 slice-aggregate-beside : tie.Need-slice-aggregate-beside
 slice-aggregate-beside c = search needs
@@ -43,8 +43,8 @@ beside-requires c κs = search needs
 returns : tie.Need-returns
 returns c = from-lent (c .before .before .before .before .before .before .before .before .before .before .before .beside .ensures)
 
-pub beside-over-spec : {M : Type 1} → statement M
-beside-over-spec =
+pub ask-beside-spec : {M : Type 1} → statement M
+ask-beside-spec =
     tie.close
     (tie.spec
     slice-aggregate-beside

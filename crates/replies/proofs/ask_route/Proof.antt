@@ -1,8 +1,8 @@
 -- The tables are as long as the limits ask, so that the call answers by the file alone.
 use borrow.Author.Needs.{needs}
 use Rattle.replies.specs.Lent.{from-lent}
-use Rattle.replies.proofs.route_over.Statement.{statement}
-use Rattle.replies.proofs.route_over.Tie as tie
+use Rattle.replies.proofs.ask_route.Statement.{statement}
+use Rattle.replies.proofs.ask_route.Tie as tie
 
 slice-aggregate-route : tie.Need-slice-aggregate-route
 slice-aggregate-route c = search needs
@@ -51,8 +51,8 @@ returns c =
     from-lent
     (c .before .before .before .before .before .before .before .before .before .before .before .before .before .before .before .route .ensures)
 
-pub route-over-spec : {M : Type 1} → statement M
-route-over-spec =
+pub ask-route-spec : {M : Type 1} → statement M
+ask-route-spec =
     tie.close
     (tie.spec
     slice-aggregate-route

@@ -4,8 +4,8 @@ use Rattle.replies.specs.Replied.{beside-replied}
 use Rattle.replies.proofs.beside_reply.Statement.{statement}
 use Rattle.replies.proofs.beside_reply.Tie as tie
 
-beside-over-requires : tie.Need-beside-over-requires
-beside-over-requires c κs = search needs
+ask-beside-requires : tie.Need-ask-beside-requires
+ask-beside-requires c κs = search needs
 
 beside-text-requires : tie.Need-beside-text-requires
 beside-text-requires c κs = search needs
@@ -16,9 +16,9 @@ same-length c = search needs
 returns : tie.Need-returns
 returns c =
     let a = c .before .before .before .before .before .before .before .before .before .args in
-    let over = c .before .before .before .before .before .before .beside-over in
-    beside-replied (a .file .now) (a .lane) (a .s) (a .side) (over .result) (over .ensures) (c .before .before .beside-text .ensures)
+    let asked = c .before .before .before .before .before .before .ask-beside in
+    beside-replied (a .file .now) (a .lane) (a .s) (a .side) (asked .result) (asked .ensures) (c .before .before .beside-text .ensures)
 
 pub beside-reply-spec : {M : Type 1} → statement M
 beside-reply-spec =
-    tie.close (tie.spec beside-over-requires beside-text-requires same-length returns)
+    tie.close (tie.spec ask-beside-requires beside-text-requires same-length returns)

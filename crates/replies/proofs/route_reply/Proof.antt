@@ -4,14 +4,14 @@ use Rattle.replies.specs.Replied.{route-replied, route-room}
 use Rattle.replies.proofs.route_reply.Statement.{statement}
 use Rattle.replies.proofs.route_reply.Tie as tie
 
-slice-aggregate-route-over : tie.Need-slice-aggregate-route-over
-slice-aggregate-route-over c = search needs
+slice-aggregate-ask-route : tie.Need-slice-aggregate-ask-route
+slice-aggregate-ask-route c = search needs
 
-slice-aggregate-route-over-2 : tie.Need-slice-aggregate-route-over-2
-slice-aggregate-route-over-2 c = search needs
+slice-aggregate-ask-route-2 : tie.Need-slice-aggregate-ask-route-2
+slice-aggregate-ask-route-2 c = search needs
 
-route-over-requires : tie.Need-route-over-requires
-route-over-requires c κs = search needs
+ask-route-requires : tie.Need-ask-route-requires
+ask-route-requires c κs = search needs
 
 slice-aggregate-route-text : tie.Need-slice-aggregate-route-text
 slice-aggregate-route-text c = search needs
@@ -23,8 +23,8 @@ route-text-requires : tie.Need-route-text-requires
 route-text-requires c κs =
     let d = c .before .before .before .before .before .before .before .before .before .before in
     let a = d .args in
-    let over = c .before .before .before .before .before .route-over in
-    route-room (a .file .now) (a .x) (a .y) (a .z) (a .u) (a .v) (a .w) (over .result) _ _ (over .ensures) _ (d .pre)
+    let asked = c .before .before .before .before .before .ask-route in
+    route-room (a .file .now) (a .x) (a .y) (a .z) (a .u) (a .v) (a .w) (asked .result) _ _ (asked .ensures) _ (d .pre)
 
 same-length : tie.Need-same-length
 same-length c = search needs
@@ -32,16 +32,16 @@ same-length c = search needs
 returns : tie.Need-returns
 returns c =
     let a = c .before .before .before .before .before .before .before .before .before .before .before .before .before .args in
-    let over = c .before .before .before .before .before .before .before .before .route-over in
-    route-replied (a .file .now) (a .x) (a .y) (a .z) (a .u) (a .v) (a .w) (over .result) _ _ (over .ensures) (c .before .before .route-text .ensures)
+    let asked = c .before .before .before .before .before .before .before .before .ask-route in
+    route-replied (a .file .now) (a .x) (a .y) (a .z) (a .u) (a .v) (a .w) (asked .result) _ _ (asked .ensures) (c .before .before .route-text .ensures)
 
 pub route-reply-spec : {M : Type 1} → statement M
 route-reply-spec =
     tie.close
     (tie.spec
-    slice-aggregate-route-over
-    slice-aggregate-route-over-2
-    route-over-requires
+    slice-aggregate-ask-route
+    slice-aggregate-ask-route-2
+    ask-route-requires
     slice-aggregate-route-text
     slice-aggregate-route-text-2
     route-text-requires
