@@ -50,7 +50,7 @@ use Rattle.search.specs.LaneGraph.{edges, out}
 use Rattle.search.specs.Search as search
 use Rattle.search.specs.Search.{blank, expanded, leastOpen, marked, rebuild, relaxed, searched}
 use Rattle.tables.specs.LaneTables.{laneRows}
-use Rattle.cases.specs.Files.{f32, f64}
+use Rattle.cases.specs.Files.{f32, f64, xyz}
 
 -- what a file gives a caller whose tables are long enough
 unfoldable pub decoded : ℕ → List ℕ → Decoded
@@ -82,6 +82,10 @@ unfolding decoded answerOf routeIn fitted routed between followed pathBy suffice
     projectTo nearerAt fractionAlong hitAlong lengthOf absOf sub mul div toUnsigned isNan
 route file from to = shown (routeOf (decoded 0 file) from to (replicate 257 0) (replicate 12288 (f32 0)))
 
+-- the answer with this chain, these points and this cost
+abbrev pub answered : List ℕ → List Point → Float → Routed
+answered chain points cost = record { number = 0; chain = chain; points = xyz points; length = cost }
+
 -- ---- positions moved on
 
 -- s on the lane n, without offset
@@ -103,9 +107,9 @@ unfolding decoded advanceIn advanceRows advanceRow answeredBy explored explore.r
     div isNan
 advance file from distance = shownPositions (advanceOf (decoded 0 file) from distance (replicate 512 0) (replicate 768 (f64 0)))
 
--- an answer with one position, and with so many keys
-abbrev pub keys : ℕ → Advance → Answer
-keys n a = record { advanced = record { number = 0; keys = n; positions = 1 }; rows = caseRow a; metres = metreRow a }
+-- the answer with so many keys and one position
+abbrev pub onePosition : ℕ → Advance → Answer
+onePosition n a = record { advanced = record { number = 0; keys = n; positions = 1 }; rows = caseRow a; metres = metreRow a }
 
 -- ---- the lane beside a lane, at s 2
 
@@ -119,5 +123,6 @@ leftOf file n = beside 0 file n
 abbrev pub rightOf : List ℕ → ℕ → BesideAnswer
 rightOf file n = beside 1 file n
 
-abbrev pub found : ℕ → BesideAnswer
-found n = centerOf n (f64 2)
+-- the answer with this lane
+abbrev pub besideLane : ℕ → BesideAnswer
+besideLane n = centerOf n (f64 2)

@@ -11,6 +11,7 @@ use Rattle.plan_format.specs.Samples.{bytes, link, made, place, sectionBy}
 
 -- ---- numbers and points
 
+-- the whole number n
 abbrev pub f32 : ℕ → Float
 f32 n = ofInt binary32 (pos n)
 
@@ -108,20 +109,21 @@ stations =
     ∷ laneThrough 2 (at 8 ∷ at 16 ∷ []) ∷ section 1 (f64 8) (f64 16) ∷ placed 2 1 (minus 1)
     ∷ successor 1 2 ∷ [])
 
--- "lanes 1 (Backward), -1, -2": these are OpenDRIVE numbers; the plan's lanes with them are
-abbrev pub one : ℕ
-one = 1
+-- the plan's lanes that have the OpenDRIVE numbers 1, -1 and -2
+abbrev pub laneOne : ℕ
+laneOne = 1
 
-abbrev pub minusOne : ℕ
-minusOne = 2
+abbrev pub laneMinusOne : ℕ
+laneMinusOne = 2
 
-abbrev pub minusTwo : ℕ
-minusTwo = 3
+abbrev pub laneMinusTwo : ℕ
+laneMinusTwo = 3
 
+-- "lanes 1 (Backward), -1, -2"
 abbrev pub sides : List ℕ
 sides =
     file
     (section 0 (f64 0) (f64 8)
-    ∷ backwardLane one ∷ placed one 0 1
-    ∷ lane minusOne ∷ placed minusOne 0 (minus 1)
-    ∷ lane minusTwo ∷ placed minusTwo 0 (minus 2) ∷ [])
+    ∷ backwardLane laneOne ∷ placed laneOne 0 1
+    ∷ lane laneMinusOne ∷ placed laneMinusOne 0 (minus 1)
+    ∷ lane laneMinusTwo ∷ placed laneMinusTwo 0 (minus 2) ∷ [])

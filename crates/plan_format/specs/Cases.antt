@@ -110,17 +110,6 @@ unfolding
     numberIs numbers
 coordinates = refl
 
--- the case of document 01: a coordinate of 4,096 passes, the next f32 above gives 5; one point gives 5
-pub coordinate-case :
-    (numberIs (decode 0 (straight 1 0 0x45800000)) ≡ 0)
-    × (numberIs (decode 0 (straight 1 0 0x45800001)) ≡ 5)
-    × (numberIs (decode 0 (lane 1 0 0 1 (point 0 0 0))) ≡ 5)
-unfolding
-    ofBits le lt u32At u64At run raisedAt queryAt laneFits sectionFits fits every any risesFrom rises laneRange sectionRange
-    inRange within recordNumber withRecord walk walked indexOf repeats twice lacks judged settled decode bytes made point lane straight
-    numberIs
-coordinate-case = (refl, refl, refl)
-
 -- stations 0 and 4
 bounded : ℕ → ℕ → List ℕ
 bounded start end = sectionBy 0 0 start end (0 ∷ four ∷ [])

@@ -10,7 +10,7 @@ use Rattle.plan_format.specs.Plan.{accepted, any, decode, every, fits, i
 use Rattle.plan_format.specs.Plan.{laneFits, laneRange, recordNumber, refused, repeats, rises, risesFrom}
 use Rattle.plan_format.specs.Plan.{sectionFits, sectionRange, settled, twice, walk, walked, withRecord, within}
 use Rattle.plan_format.specs.Records.{Lane, queryAt, raisedAt, run}
-use Rattle.plan_format.specs.Samples.{bytes, f32, lane, link, made, numberIs, place, point, rowsIn, section, sectionBy, straight, wide}
+use Rattle.plan_format.specs.Samples.{bytes, f32Bits, lane, link, made, numberIs, place, point, rowsIn, section, sectionBy, straight, wide}
 use Rattle.plan_format.specs.Tables.{linked, planRows, rows, rowsFrom}
 use Rattle.plan_format.specs.declared.Counts.{Counts}
 use Rattle.plan_format.specs.declared.Query.the-variants.{Route}
@@ -29,7 +29,7 @@ driving n from to =
       direction = 0;
       ends = 0;
       count = 2;
-      points = f32 from ∷ f32 0 ∷ f32 0 ∷ f32 to ∷ f32 0 ∷ f32 0 ∷ [];
+      points = f32Bits from ∷ f32Bits 0 ∷ f32Bits 0 ∷ f32Bits to ∷ f32Bits 0 ∷ f32Bits 0 ∷ [];
       tangents = [];
     }
 
@@ -40,12 +40,12 @@ printed-plan :
       links = record { from = 1; role = 0; to = 2 } ∷ [];
       sections = [];
       places = [];
-      queries = Route (f32 0x40000000) (f32 0) (f32 0) (f32 0x41400000) (f32 0) (f32 0) ∷ [];
+      queries = Route (f32Bits 0x40000000) (f32Bits 0) (f32Bits 0) (f32Bits 0x41400000) (f32Bits 0) (f32Bits 0) ∷ [];
     })
 unfolding
     ofBits le lt u32At u64At run raisedAt queryAt laneFits sectionFits fits every any risesFrom rises laneRange sectionRange
     inRange within recordNumber withRecord walk walked indexOf repeats twice lacks judged settled decode bytes made point
-    lane straight link wide sectionBy section place f32 driving printed
+    lane straight link wide sectionBy section place f32Bits driving printed
 printed-plan = refl
 
 -- its tables of lanes, links and fans
@@ -56,7 +56,7 @@ printed-tables :
 unfolding
     ofBits le lt u32At u64At run raisedAt queryAt laneFits sectionFits fits every any risesFrom rises laneRange sectionRange
     inRange within recordNumber withRecord walk walked indexOf repeats twice lacks judged settled decode bytes made point
-    lane straight link wide sectionBy section place f32 driving printed rows rowsFrom linked planRows rowsIn
+    lane straight link wide sectionBy section place f32Bits driving printed rows rowsFrom linked planRows rowsIn
 printed-tables = (refl, refl, refl)
 
 -- 0: an empty file is a plan without lanes
@@ -128,7 +128,7 @@ cases :
 unfolding
     ofBits le lt u32At u64At run raisedAt queryAt laneFits sectionFits fits every any risesFrom rises laneRange sectionRange
     inRange within recordNumber withRecord walk walked indexOf repeats twice lacks judged settled decode bytes made point
-    lane straight link wide sectionBy section place f32 driving printed empty five-bytes past-the-end unknown-kind wrong-length edge above one-point
+    lane straight link wide sectionBy section place f32Bits driving printed empty five-bytes past-the-end unknown-kind wrong-length edge above one-point
     two-ends same-lane twice-before-missing from-missing to-missing placed no-section numberIs
 cases = refl
 
@@ -137,7 +137,7 @@ side-two : numberIs (decode 2 same-lane) ≡ 5
 unfolding
     ofBits le lt u32At u64At run raisedAt queryAt laneFits sectionFits fits every any risesFrom rises laneRange sectionRange
     inRange within recordNumber withRecord walk walked indexOf repeats twice lacks judged settled decode bytes made point
-    lane straight link wide sectionBy section place f32 driving printed empty five-bytes past-the-end unknown-kind wrong-length edge above one-point
+    lane straight link wide sectionBy section place f32Bits driving printed empty five-bytes past-the-end unknown-kind wrong-length edge above one-point
     two-ends same-lane twice-before-missing from-missing to-missing placed no-section numberIs
 side-two = refl
 
@@ -150,7 +150,7 @@ limits :
 unfolding
     ofBits le lt u32At u64At run raisedAt queryAt laneFits sectionFits fits every any risesFrom rises laneRange sectionRange
     inRange within recordNumber withRecord walk walked indexOf repeats twice lacks judged settled decode bytes made point
-    lane straight link wide sectionBy section place f32 driving printed after
+    lane straight link wide sectionBy section place f32Bits driving printed after
 limits = refl
 
 -- more than 65,536 bytes

@@ -15,7 +15,7 @@ bytes (suc k) n = n % 256 ∷ bytes k (n / 256)
 unfoldable pub made : ℕ → List ℕ → List ℕ
 made kind payload = bytes 4 (length payload) ++ (bytes 2 kind ++ payload)
 
--- an f32 by its bits
+-- a point, by the bits of its three f32
 unfoldable pub point : ℕ → ℕ → ℕ → List ℕ
 point x y z = bytes 4 x ++ (bytes 4 y ++ bytes 4 z)
 
@@ -53,8 +53,9 @@ advance lane s offset distance = made 17 (bytes 2 lane ++ (bytes 8 s ++ (bytes 8
 unfoldable pub beside : ℕ → ℕ → ℕ → List ℕ
 beside lane s side = made 18 (bytes 2 lane ++ (bytes 8 s ++ (side ∷ [])))
 
-unfoldable pub f32 : ℕ → Float
-f32 n = ofBits binary32 n
+-- an f32 by its bits
+unfoldable pub f32Bits : ℕ → Float
+f32Bits n = ofBits binary32 n
 
 -- the number of a file, 0 for a plan
 unfoldable pub numberIs : Decoded → ℕ
