@@ -84,3 +84,9 @@ module _ (lanes : List ℕ) (n : ℕ) (fans places : List ℕ) (m : ℕ) (bounds
         beside-it h =
             from-row (centerAt lanes (placedLane places r) (at .s))
             (sym (rw (lt-ltb i n known, lt-ltb (placeOf fans i) m placed, ← within, on, ← toward, ← next, lt-ltb r m h)))
+
+-- ---- the sides: 0 is the left, any other the right
+pub on-right : (lanes : List ℕ) (n : ℕ) (fans places : List ℕ) (m : ℕ) (bounds : List Float) (at : LanePosition) (side : ℕ) → (side ≡ 0 → ⊥)
+    → besideRows lanes n fans places m bounds at 1 ≡ besideRows lanes n fans places m bounds at side
+unfolding besideRows besideRow
+on-right lanes n fans places m bounds at side h = rw (ne-eqb side 0 h)

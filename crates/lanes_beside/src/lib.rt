@@ -38,7 +38,10 @@ fn beside_from(
     let fs = &fans[..b];
     let ps = &places[..d];
     let bs = &bounds[..e];
-    beside::beside(ls, n, fs, ps, m, bs, at, side)
+    if side == 0 {
+        return beside::left_of(ls, n, fs, ps, m, bs, at);
+    }
+    beside::right_of(ls, n, fs, ps, m, bs, at)
 }
 
 // The lane beside a position at s on a lane: side 0 for the left of its traffic, 1 for the right. Numbers 1 to 8, where 5 is also another side;
