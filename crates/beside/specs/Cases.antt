@@ -1,4 +1,5 @@
--- Worked cases, by computation: document 01's lanes 1 (Backward), -1 and -2 of one section, in file order as the lanes 5, 6 and 7.
+-- Worked cases, by computation, past document 01's own, which `cases` has: the paper's lanes 1 (Backward), -1 and -2 of one section, here the
+-- lanes 5, 6 and 7.
 use mathlib.Core.Path.{_≡_, refl}
 use mathlib.Core.List.{List, [], _∷_}
 use Prim.Native.Nat.{ℕ}
@@ -40,22 +41,6 @@ plan = record {
 -- with an offset that no answer keeps
 abbrev answer : ℕ → Float → ℕ → BesideAnswer
 answer lane s side = besideIn plan (record { lane = record { 0 = lane }; s = s; offset = two }) side
-
-left-of-minus-one : answer 6 two 0 ≡ centerOf 5 two
-unfolding besideIn nextPlace indexOf le ofBits
-left-of-minus-one = refl
-
-right-of-minus-one : answer 6 two 1 ≡ centerOf 7 two
-unfolding besideIn nextPlace indexOf le ofBits
-right-of-minus-one = refl
-
-left-of-one : answer 5 two 0 ≡ centerOf 6 two
-unfolding besideIn nextPlace indexOf le ofBits
-left-of-one = refl
-
-right-of-one : answer 5 two 1 ≡ refusal 15
-unfolding besideIn nextPlace indexOf le ofBits
-right-of-one = refl
 
 right-of-minus-two : answer 7 two 1 ≡ refusal 15
 unfolding besideIn nextPlace indexOf le ofBits
