@@ -129,15 +129,21 @@ heap-run =
     (reached (pops _ _ _ first refl) refl (further refl (eqb-false 3 1 refl) (back refl))))
 
 -- the missing lane 9 is pushed as any other; its entry, the cheaper, is popped first and pushes nothing, and then 2 is popped
-missing-pushed : heapBegun missingEdges 1 2 .heap ≡ record { cost = m30; lane = 2 } ∷ record { cost = m8; lane = 9 } ∷ []
+abbrev toTwo : Entry Float
+toTwo = record { cost = m30; lane = 2 }
+
+abbrev toNine : Entry Float
+toNine = record { cost = m8; lane = 9 }
+
+missing-pushed : heapBegun missingEdges 1 2 .heap ≡ toTwo ∷ toNine ∷ []
 unfolding pushAll push edgesFrom linked indexOf ofBits lt add sum round size units odd trailingZeros
 missing-pushed = refl
 
 missing-run : HeapRun missingEdges 1 2 (found (1 ∷ 2 ∷ []) m30)
 unfolding pushAll push edgesFrom linked indexOf ofBits lt eq isNan isNegative add sum round size units odd trailingZeros
 missing-run =
-    fresh (pops (record { cost = m8; lane = 9 }) _ _ (later first) refl) (eqb-false 9 2 refl) refl
-    (reached (pops (record { cost = m30; lane = 2 }) _ [] first refl) refl (back refl))
+    fresh (pops toNine (toTwo ∷ toNine ∷ []) (toTwo ∷ []) (later first) refl) (eqb-false 9 2 refl) refl
+    (reached (pops toTwo (toTwo ∷ []) [] first refl) refl (back refl))
 
 -- the same chains of link records; a single lane is none
 chains : (isChain fourLinks 1 4 (1 ∷ 3 ∷ 4 ∷ []) ≡ true) × (isChain (link 1 0 1 ∷ []) 1 1 (1 ∷ 1 ∷ []) ≡ true)
