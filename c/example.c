@@ -45,9 +45,9 @@ static void print_nearest(kartsodi_point p)
 static void print_route(kartsodi_point p, kartsodi_point q)
 {
     static size_t chain[KARTSODI_CHAIN];
-    static float stops[3 * KARTSODI_ROUTE_POINTS];
+    static float waypoints[3 * KARTSODI_ROUTE_POINTS];
     kartsodi_route_answer a = kartsodi_route(file, length, p.x, p.y, p.z, q.x, q.y, q.z, KARTSODI_LEND(&tables),
-        KARTSODI_ARRAY(chain), KARTSODI_ARRAY(stops));
+        KARTSODI_ARRAY(chain), KARTSODI_ARRAY(waypoints));
     if (a.number != KARTSODI_OK) {
         printf("route: refused with %zu\n", a.number);
         return;
@@ -58,7 +58,7 @@ static void print_route(kartsodi_point p, kartsodi_point q)
     }
     printf("; %zu points\n", a.points);
     for (size_t i = 0; i < a.points; i++) {
-        printf("  (%.2f, %.2f, %.2f)\n", stops[3 * i], stops[3 * i + 1], stops[3 * i + 2]);
+        printf("  (%.2f, %.2f, %.2f)\n", waypoints[3 * i], waypoints[3 * i + 1], waypoints[3 * i + 2]);
     }
 }
 

@@ -137,9 +137,9 @@ kartsodi_posed kartsodi_pose(const uint8_t *file, size_t file_length, size_t lan
 kartsodi_nearest_answer kartsodi_nearest_lane(const uint8_t *file, size_t file_length, float x, float y, float z, KARTSODI_TABLES);
 
 /* The route from the lane nearest to one point to the lane nearest to another. Numbers 1 to 11 and 14.
- * chain: the numbers of its lanes. stops: x, y, z of its points. */
+ * chain: the numbers of its lanes. waypoints: x, y, z of its points. */
 kartsodi_route_answer kartsodi_route(const uint8_t *file, size_t file_length, float x, float y, float z, float to_x, float to_y, float to_z,
-    KARTSODI_TABLES, size_t *chain, size_t chain_length, float *stops, size_t stops_length);
+    KARTSODI_TABLES, size_t *chain, size_t chain_length, float *waypoints, size_t waypoints_length);
 
 /* Every place `distance` metres on from s and offset on a lane, by every branch; below 0, backward. Numbers 1 to 8, 12, 13 and 14.
  * rows: of each position KARTSODI_REACHED or KARTSODI_DEAD_END, and its lane. metres: its s, its offset and the metres short, 0 where reached. */

@@ -161,16 +161,16 @@ pub fn nearest_lane(file: &[u8], p: Point, t: Tables<'_>) -> NearestAnswer {
     call!(kartsodi_nearest_lane, file, (p.x, p.y, p.z), t, [])
 }
 
-/// The route from one point to another. `chain` gets the numbers of its lanes, `stops` x, y, z of its points. Numbers 1 to 11 and 14.
+/// The route from one point to another. `chain` gets the numbers of its lanes, `waypoints` x, y, z of its points. Numbers 1 to 11 and 14.
 pub fn route(
     file: &[u8],
     from: Point,
     to: Point,
     t: Tables<'_>,
     chain: &mut [usize],
-    stops: &mut [f32],
+    waypoints: &mut [f32],
 ) -> RouteAnswer {
-    call!(kartsodi_route, file, (from.x, from.y, from.z, to.x, to.y, to.z), t, [chain, stops])
+    call!(kartsodi_route, file, (from.x, from.y, from.z, to.x, to.y, to.z), t, [chain, waypoints])
 }
 
 /// Every place a distance on from a position. `rows` gets of each its case (0 reached, 1 dead end) and its lane, `metres` its s, its offset and the

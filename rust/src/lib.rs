@@ -216,7 +216,7 @@ pub struct Plan {
     file: Vec<u8>,
     tables: Tables,
     chain: Vec<usize>,
-    stops: Vec<f32>,
+    waypoints: Vec<f32>,
     rows: Vec<usize>,
     metres: Vec<f64>,
 }
@@ -252,7 +252,7 @@ impl Plan {
             file: file.to_vec(),
             tables: Tables::new(),
             chain: vec![0; room.lanes],
-            stops: vec![0.0; 3 * room.points],
+            waypoints: vec![0.0; 3 * room.points],
             rows: vec![0; 2 * room.positions],
             metres: vec![0.0; 3 * room.positions],
         };
@@ -285,11 +285,11 @@ impl Plan {
     ///
     /// Refused as [`Refusal::NotAPoint`], [`Refusal::NoneDrives`], [`Refusal::NoWay`] or [`Refusal::TooMuch`].
     pub fn route(&mut self, from: Point, to: Point) -> Result<Route, Refusal> {
-        let said = lent::route(&self.file, from, to, self.tables.lend(), &mut self.chain, &mut self.stops);
+        let said = lent::route(&self.file, from, to, self.tables.lend(), &mut self.chain, &mut self.waypoints);
         answered(said.number)?;
         let chain = self.chain[..said.lanes].iter().map(|&lane| LaneId(lane)).collect();
-        let stops = self.stops[..3 * said.points].chunks_exact(3);
-        let points = stops.map(|at| Point { x: at[0], y: at[1], z: at[2] }).collect();
+        let waypoints = self.waypoints[..3 * said.points].chunks_exact(3);
+        let points = waypoints.map(|at| Point { x: at[0], y: at[1], z: at[2] }).collect();
         Ok(Route { chain, points, length: said.length })
     }
 

@@ -71,7 +71,7 @@ shown r =
     record {
       number = r .answer .number;
       chain = take (r .answer .lanes) (r .chain);
-      points = take (3 * r .answer .points) (r .stops);
+      points = take (3 * r .answer .points) (r .waypoints);
       length = r .answer .length;
     }
 

@@ -26,11 +26,11 @@ pub extern "C" fn kartsodi_route(
     cumulative: &mut [f32],
     tangents: &mut [f32],
     chain: &mut [usize],
-    stops: &mut [f32],
+    waypoints: &mut [f32],
 ) -> RouteAnswer
     ensures { λ r. ⌜ Calls
-        (λ (d : Decoded). routeOf d (point x y z) (point u v w) (now (chain .entry)) (now (stops .entry))) 0 (now (file .entry))
-        (listsOf r (now (chain .exit)) (now (stops .exit)))
+        (λ (d : Decoded). routeOf d (point x y z) (point u v w) (now (chain .entry)) (now (waypoints .entry))) 0 (now (file .entry))
+        (listsOf r (now (chain .exit)) (now (waypoints .exit)))
         (laneTables (now (lanes .entry)) (now (points .entry)) (now (ends .entry)) (now (fans .entry)) (now (links .entry))
         (now (sections .entry)) (now (bounds .entry)) (now (stations .entry)) (now (places .entry)) (now (cumulative .entry))
         (now (tangents .entry)))
@@ -58,6 +58,6 @@ pub extern "C" fn kartsodi_route(
         cumulative,
         tangents,
         chain,
-        stops,
+        waypoints,
     )
 }

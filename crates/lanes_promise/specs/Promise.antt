@@ -20,44 +20,44 @@ use Rattle.route_promise.proofs.Theorem.{route-promise}
 use Rattle.route_promise.specs.Promise.{Promised, wholeRoute}
 use Rattle.tables.specs.LaneTables.{Calls, LaneTables, tooShort}
 
--- a call that answers r and leaves chain′ and stops′ in its lists shows the route R: its number, counts and length, its lanes and its points
-pub record Shows (R : Routed) (r : RouteAnswer) (chain′ : List ℕ) (stops′ : List Float) : Type 0 where
+-- a call that answers r and leaves chain′ and waypoints′ in its lists shows the route R: its number, counts and length, its lanes and its points
+pub record Shows (R : Routed) (r : RouteAnswer) (chain′ : List ℕ) (waypoints′ : List Float) : Type 0 where
   pub answer : r ≡ answerOf R
   pub lanes : take (length (R .chain)) chain′ ≡ R .chain
-  pub points : take (length (R .points)) stops′ ≡ R .points
+  pub points : take (length (R .points)) waypoints′ ≡ R .points
 
 -- the route that a call shows, with what is promised of it
-pub record KeepsPromise (p : Plan) (from to : Point) (chain : List ℕ) (stops : List Float) (r : RouteAnswer) (chain′ : List ℕ) (stops′ : List Float)
-    : Type 0 where
+pub record KeepsPromise (p : Plan) (from to : Point) (chain : List ℕ) (waypoints : List Float) (r : RouteAnswer) (chain′ : List ℕ)
+    (waypoints′ : List Float) : Type 0 where
   pub shown : Routed
-  pub shows : Shows shown r chain′ stops′
-  pub promised : Promised p from to (length chain) (length stops) (nearestIn p from) (nearestIn p to) (wholeRoute p from to) shown
+  pub shows : Shows shown r chain′ waypoints′
+  pub promised : Promised p from to (length chain) (length waypoints) (nearestIn p from) (nearestIn p to) (wholeRoute p from to) shown
 
 -- DEMAND 3 of one call over a file of these bytes, with the tables t: where they are long enough and the points are finite, for every plan that
 -- the file decodes to
 abbrev pub Demand3 : List ℕ → LaneTables → Point → Point → List ℕ → List Float → RouteAnswer → List ℕ → List Float → Type 0
-Demand3 file t from to chain stops r chain′ stops′ =
+Demand3 file t from to chain waypoints r chain′ waypoints′ =
     tooShort t ≡ false → finitePoint from ≡ true → finitePoint to ≡ true → (p : Plan) → decode 0 file ≡ accepted p
-    → KeepsPromise p from to chain stops r chain′ stops′
+    → KeepsPromise p from to chain waypoints r chain′ waypoints′
 
 -- what `lanes_route::route` ensures of a call gives it
-module _ (file : List ℕ) (B : Bytes file) (t t′ : LaneTables) (from to : Point) (chain chain′ : List ℕ) (stops stops′ : List Float)
-    (r : RouteAnswer) (C : Calls (λ (d : Decoded). routeOf d from to chain stops) 0 file (listsOf r chain′ stops′) t t′)
+module _ (file : List ℕ) (B : Bytes file) (t t′ : LaneTables) (from to : Point) (chain chain′ : List ℕ) (waypoints waypoints′ : List Float)
+    (r : RouteAnswer) (C : Calls (λ (d : Decoded). routeOf d from to chain waypoints) 0 file (listsOf r chain′ waypoints′) t t′)
   where
-    lists : tooShort t ≡ false → (p : Plan) → decode 0 file ≡ accepted p → listsOf r chain′ stops′ ≡ routeOf (accepted p) from to chain stops
+    lists : tooShort t ≡ false → (p : Plan) → decode 0 file ≡ accepted p → listsOf r chain′ waypoints′ ≡ routeOf (accepted p) from to chain waypoints
     unfolding opened
     lists long p is = rw (long, is) at (C .answer-is)
 
-    pub route-kept : Demand3 file t from to chain stops r chain′ stops′
+    pub route-kept : Demand3 file t from to chain waypoints r chain′ waypoints′
     route-kept long F T p is =
-        let R = routeIn p from to (length chain) (length stops) in
+        let R = routeIn p from to (length chain) (length waypoints) in
         let e = lists long p is in
         record {
           shown = R;
           shows = record {
             answer = ap (λ (x : RouteLists). x .answer) e;
             lanes = ap (λ (x : RouteLists). take (length (R .chain)) (x .chain)) e ∙ over-front (R .chain) chain _ refl;
-            points = ap (λ (x : RouteLists). take (length (R .points)) (x .stops)) e ∙ over-front (R .points) stops _ refl;
+            points = ap (λ (x : RouteLists). take (length (R .points)) (x .waypoints)) e ∙ over-front (R .points) waypoints _ refl;
           };
-          promised = route-promise file B p is from to F T (length chain) (length stops);
+          promised = route-promise file B p is from to F T (length chain) (length waypoints);
         }

@@ -6,7 +6,7 @@ ghost use Rattle.lanes_route.specs.Route.{listsOf, routeOf};
 ghost use Rattle.lanes_promise.specs.Promise.{Demand3};
 use route::RouteAnswer;
 
-// The route from the point (x, y, z) to the point (u, v, w): the numbers of its lanes in `chain`, x y z of its points in `stops`.
+// The route from the point (x, y, z) to the point (u, v, w): the numbers of its lanes in `chain`, x y z of its points in `waypoints`.
 // Numbers 1 to 8, 9 where a coordinate is not finite, 10 where no lane drives, 11 where no chain leads to the goal, and 14.
 pub fn route(
     file: &[u8],
@@ -28,11 +28,11 @@ pub fn route(
     cumulative: &mut [f32],
     tangents: &mut [f32],
     chain: &mut [usize],
-    stops: &mut [f32],
+    waypoints: &mut [f32],
 ) -> RouteAnswer
     ensures calls { λ r. ⌜ Calls
-        (λ (d : Decoded). routeOf d (point x y z) (point u v w) (now (chain .entry)) (now (stops .entry))) 0 (now (file .entry))
-        (listsOf r (now (chain .exit)) (now (stops .exit)))
+        (λ (d : Decoded). routeOf d (point x y z) (point u v w) (now (chain .entry)) (now (waypoints .entry))) 0 (now (file .entry))
+        (listsOf r (now (chain .exit)) (now (waypoints .exit)))
         (laneTables (now (lanes .entry)) (now (points .entry)) (now (ends .entry)) (now (fans .entry)) (now (links .entry))
         (now (sections .entry)) (now (bounds .entry)) (now (stations .entry)) (now (places .entry)) (now (cumulative .entry))
         (now (tangents .entry)))
@@ -43,7 +43,7 @@ pub fn route(
         (laneTables (now (lanes .entry)) (now (points .entry)) (now (ends .entry)) (now (fans .entry)) (now (links .entry))
         (now (sections .entry)) (now (bounds .entry)) (now (stations .entry)) (now (places .entry)) (now (cumulative .entry))
         (now (tangents .entry)))
-        (point x y z) (point u v w) (now (chain .entry)) (now (stops .entry)) r (now (chain .exit)) (now (stops .exit)) ⌝ }
+        (point x y z) (point u v w) (now (chain .entry)) (now (waypoints .entry)) r (now (chain .exit)) (now (waypoints .exit)) ⌝ }
 {
     lanes_route::route(
         file,
@@ -65,6 +65,6 @@ pub fn route(
         cumulative,
         tangents,
         chain,
-        stops,
+        waypoints,
     )
 }

@@ -27,23 +27,23 @@ use Rattle.calling.specs.Calling.{calls-accepted}
 pub record RouteLists : Type 0 where
   pub answer : RouteAnswer
   pub chain : List ℕ
-  pub stops : List Float
+  pub waypoints : List Float
 
 abbrev pub listsOf : RouteAnswer → List ℕ → List Float → RouteLists
-listsOf r chain stops = record { answer = r; chain = chain; stops = stops }
+listsOf r chain waypoints = record { answer = r; chain = chain; waypoints = waypoints }
 
 -- the lanes and the points of a route at the fronts of the lists; a refused one leaves them
 abbrev pub listed : Routed → List ℕ → List Float → RouteLists
-listed R chain stops = listsOf (answerOf R) (over (R .chain) chain) (over (R .points) stops)
+listed R chain waypoints = listsOf (answerOf R) (over (R .chain) chain) (over (R .points) waypoints)
 
 -- the answer for a file
 abbrev pub routeOf : Decoded → Point → Point → List ℕ → List Float → RouteLists
-routeOf (refused k) from to chain stops = listed (refusal k) chain stops
-routeOf (accepted p) from to chain stops = listed (routeIn p from to (length chain) (length stops)) chain stops
+routeOf (refused k) from to chain waypoints = listed (refusal k) chain waypoints
+routeOf (accepted p) from to chain waypoints = listed (routeIn p from to (length chain) (length waypoints)) chain waypoints
 
-pub as-lists : (R : Routed) (r : RouteAnswer) (chain chain′ : List ℕ) (stops stops′ : List Float) → Routes R r chain chain′ stops stops′
-    → listsOf r chain′ stops′ ≡ listed R chain stops
-as-lists R r chain chain′ stops stops′ P = rw (P .answer-is, P .chain-is, P .stops-is)
+pub as-lists : (R : Routed) (r : RouteAnswer) (chain chain′ : List ℕ) (waypoints waypoints′ : List Float)
+    → Routes R r chain chain′ waypoints waypoints′ → listsOf r chain′ waypoints′ ≡ listed R chain waypoints
+as-lists R r chain chain′ waypoints waypoints′ P = rw (P .answer-is, P .chain-is, P .waypoints-is)
 
 -- the front of each table, for a plan with these counts
 abbrev pub cut : Counts → List ℕ → List Float → List Float → List ℕ → List ℕ → RouteTables
@@ -74,9 +74,9 @@ module _ (p : Plan) (A : Accepted p) (n : ℕ) (ls : List ℕ) (xs cs : List Flo
   routable-of : Routable (routeTables ls xs cs fs ks) n
   routable-of = rw (tables-are, few) (routable p A)
 
-  route-of : (from to : Point) (chainRoom stopsRoom : ℕ)
-      → fitted chainRoom stopsRoom (routed (routeTables ls xs cs fs ks) n (lanesFrom ls xs n 0) from to) ≡ routeIn p from to chainRoom stopsRoom
-  route-of from to chainRoom stopsRoom = rw (tables-are, l, x, few) (route-is p A from to chainRoom stopsRoom)
+  route-of : (from to : Point) (chainRoom waypointRoom : ℕ)
+      → fitted chainRoom waypointRoom (routed (routeTables ls xs cs fs ks) n (lanesFrom ls xs n 0) from to) ≡ routeIn p from to chainRoom waypointRoom
+  route-of from to chainRoom waypointRoom = rw (tables-are, l, x, few) (route-is p A from to chainRoom waypointRoom)
 
 -- the tables of an accepted file
 module _ (side : ℕ) (f : List ℕ) (B : Bytes f) (r : Read) (t t′ : LaneTables) (O : Opens (opened (tooShort t) side f) r t t′)
@@ -105,14 +105,14 @@ module _ (side : ℕ) (f : List ℕ) (B : Bytes f) (r : Read) (t t′ : LaneTabl
         rows = routable-of p ok _ _ _ _ _ _ few (L .is) (X .is) (C .is) (F .is) (K .is);
       }
 
-  pub route-calls : (from to : Point) (chain chain′ : List ℕ) (stops stops′ : List Float) (a : RouteAnswer)
+  pub route-calls : (from to : Point) (chain chain′ : List ℕ) (waypoints waypoints′ : List Float) (a : RouteAnswer)
       → Routes
-      (fitted (length chain) (length stops)
+      (fitted (length chain) (length waypoints)
       (routed (cut c (t′ .plan .lanes) (t′ .plan .points) (t′ .cumulative) (t′ .plan .fans) (t′ .plan .links)) (c .lanes)
       (frontLanes c (t′ .plan .lanes) (t′ .plan .points)) from to))
-      a chain chain′ stops stops′
-      → Calls (λ (d : Decoded). routeOf d from to chain stops) side f (listsOf a chain′ stops′) t t′
-  route-calls from to chain chain′ stops stops′ a e =
+      a chain chain′ waypoints waypoints′
+      → Calls (λ (d : Decoded). routeOf d from to chain waypoints) side f (listsOf a chain′ waypoints′) t t′
+  route-calls from to chain chain′ waypoints waypoints′ a e =
       let p = found side f B r t t′ O z .plan in
       let ok = found side f B r t t′ O z .ok in
       let L = lanes-now side f B r t t′ O z c refl in
@@ -120,7 +120,7 @@ module _ (side : ℕ) (f : List ℕ) (B : Bytes f) (r : Read) (t t′ : LaneTabl
       let C = cumulative-now side f B r t t′ O z c refl in
       let F = fans-now side f B r t t′ O z c refl in
       let K = links-now side f B r t t′ O z c refl in
-      calls-accepted (λ (d : Decoded). routeOf d from to chain stops) side f B r t t′ O (listsOf a chain′ stops′) z
-      (as-lists _ a chain chain′ stops stops′ e
-      ∙ ap (λ (R : Routed). listed R chain stops)
-      (route-of p ok _ _ _ _ _ _ few (L .is) (X .is) (C .is) (F .is) (K .is) from to (length chain) (length stops)))
+      calls-accepted (λ (d : Decoded). routeOf d from to chain waypoints) side f B r t t′ O (listsOf a chain′ waypoints′) z
+      (as-lists _ a chain chain′ waypoints waypoints′ e
+      ∙ ap (λ (R : Routed). listed R chain waypoints)
+      (route-of p ok _ _ _ _ _ _ few (L .is) (X .is) (C .is) (F .is) (K .is) from to (length chain) (length waypoints)))

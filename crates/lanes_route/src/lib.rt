@@ -21,13 +21,13 @@ fn route_from(
     fans: &[usize],
     links: &[usize],
     chain: &mut [usize],
-    stops: &mut [f32],
+    waypoints: &mut [f32],
 ) -> RouteAnswer
     requires { ⌜ RouteFronts counts (now lanes) (now points) (now cumulative) (now fans) (now links) ⌝ }
-    ensures { λ r. ⌜ Routes (fitted (length (now (chain .entry))) (length (now (stops .entry)))
+    ensures { λ r. ⌜ Routes (fitted (length (now (chain .entry))) (length (now (waypoints .entry)))
         (routed (cut counts (now (lanes .entry)) (now (points .entry)) (now (cumulative .entry)) (now (fans .entry)) (now (links .entry)))
         (counts .lanes) (frontLanes counts (now (lanes .entry)) (now (points .entry))) from to))
-        r (now (chain .entry)) (now (chain .exit)) (now (stops .entry)) (now (stops .exit)) ⌝ }
+        r (now (chain .entry)) (now (chain .exit)) (now (waypoints .entry)) (now (waypoints .exit)) ⌝ }
 {
     let n = counts.lanes;
     let q = counts.points;
@@ -41,10 +41,10 @@ fn route_from(
     let cs = &cumulative[..q];
     let fs = &fans[..d];
     let ks = &links[..e];
-    route::route(from, to, ls, n, xs, cs, fs, ks, chain, stops)
+    route::route(from, to, ls, n, xs, cs, fs, ks, chain, waypoints)
 }
 
-// The route from the point (x, y, z) to the point (u, v, w): the numbers of its lanes in `chain`, x y z of its points in `stops`.
+// The route from the point (x, y, z) to the point (u, v, w): the numbers of its lanes in `chain`, x y z of its points in `waypoints`.
 // Numbers 1 to 8, 9 where a coordinate is not finite, 10 where no lane drives, 11 where no chain leads to the goal, and 14.
 pub fn route(
     file: &[u8],
@@ -66,11 +66,11 @@ pub fn route(
     cumulative: &mut [f32],
     tangents: &mut [f32],
     chain: &mut [usize],
-    stops: &mut [f32],
+    waypoints: &mut [f32],
 ) -> RouteAnswer
     ensures { λ r. ⌜ Calls
-        (λ (d : Decoded). routeOf d (point x y z) (point u v w) (now (chain .entry)) (now (stops .entry))) 0 (now (file .entry))
-        (listsOf r (now (chain .exit)) (now (stops .exit)))
+        (λ (d : Decoded). routeOf d (point x y z) (point u v w) (now (chain .entry)) (now (waypoints .entry))) 0 (now (file .entry))
+        (listsOf r (now (chain .exit)) (now (waypoints .exit)))
         (laneTables (now (lanes .entry)) (now (points .entry)) (now (ends .entry)) (now (fans .entry)) (now (links .entry))
         (now (sections .entry)) (now (bounds .entry)) (now (stations .entry)) (now (places .entry)) (now (cumulative .entry))
         (now (tangents .entry)))
@@ -108,6 +108,6 @@ pub fn route(
         fans,
         links,
         chain,
-        stops,
+        waypoints,
     )
 }

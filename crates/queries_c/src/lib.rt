@@ -154,13 +154,13 @@ pub extern "C" fn kartsodi_route_rows(
     fans: &[usize],
     links: &[usize],
     chain: &mut [usize],
-    stops: &mut [f32],
+    waypoints: &mut [f32],
 ) -> RouteAnswer
     requires { ⌜ Routable (routeTables (now lanes) (now points) (now cumulative) (now fans) (now links)) n ⌝ }
-    ensures { λ r. ⌜ Routes (fitted (length (now (chain .entry))) (length (now (stops .entry)))
+    ensures { λ r. ⌜ Routes (fitted (length (now (chain .entry))) (length (now (waypoints .entry)))
         (routed (routeTables (now (lanes .entry)) (now (points .entry)) (now (cumulative .entry)) (now (fans .entry)) (now (links .entry)))
-        n (lanesFrom (now (lanes .entry)) (now (points .entry)) n 0) from to)) r (now (chain .entry)) (now (chain .exit)) (now (stops .entry))
-        (now (stops .exit)) ⌝ }
+        n (lanesFrom (now (lanes .entry)) (now (points .entry)) n 0) from to)) r (now (chain .entry)) (now (chain .exit)) (now (waypoints .entry))
+        (now (waypoints .exit)) ⌝ }
 {
     route::route(
         from,
@@ -172,7 +172,7 @@ pub extern "C" fn kartsodi_route_rows(
         fans,
         links,
         chain,
-        stops,
+        waypoints,
     )
 }
 

@@ -25,34 +25,35 @@ use Rattle.rows.specs.Rows.{placeOf, placedSection, pointsOf, stationsOf}
 
 -- ---- a route
 
-pub record RouteFits (r : RouteLists) (chain : List ℕ) (stops : List Float) : Type 0 where
+pub record RouteFits (r : RouteLists) (chain : List ℕ) (waypoints : List Float) : Type 0 where
   pub lanes : r .answer .lanes ≤ length chain
-  pub points : 3 * r .answer .points ≤ length stops
+  pub points : 3 * r .answer .points ≤ length waypoints
   pub chain-kept : length (r .chain) ≡ length chain
-  pub stops-kept : length (r .stops) ≡ length stops
+  pub waypoints-kept : length (r .waypoints) ≡ length waypoints
 
-module _ (chain : List ℕ) (stops : List Float) where
-  within : (R : Routed) → length (R .chain) ≤ length chain → length (R .points) ≤ length stops → RouteFits (listed R chain stops) chain stops
+module _ (chain : List ℕ) (waypoints : List Float) where
+  within : (R : Routed) → length (R .chain) ≤ length chain → length (R .points) ≤ length waypoints
+      → RouteFits (listed R chain waypoints) chain waypoints
   unfolding answerOf
   within R h l =
       record {
         lanes = h;
         points = omega arith;
         chain-kept = over-length (R .chain) chain h;
-        stops-kept = over-length (R .points) stops l;
+        waypoints-kept = over-length (R .points) waypoints l;
       }
 
-  fitted-fits : (R : Routed) → RouteFits (listed (fitted (length chain) (length stops) R) chain stops) chain stops
+  fitted-fits : (R : Routed) → RouteFits (listed (fitted (length chain) (length waypoints) R) chain waypoints) chain waypoints
   unfolding fitted
-  fitted-fits R = by (leb (length (R .chain)) (length chain)) (leb (length (R .points)) (length stops)) refl refl
+  fitted-fits R = by (leb (length (R .chain)) (length chain)) (leb (length (R .points)) (length waypoints)) refl refl
     where
-      by : (a b : Bool) → leb (length (R .chain)) (length chain) ≡ a → leb (length (R .points)) (length stops) ≡ b
-          → RouteFits (listed (cond (a && b) R (refusal 14)) chain stops) chain stops
+      by : (a b : Bool) → leb (length (R .chain)) (length chain) ≡ a → leb (length (R .points)) (length waypoints) ≡ b
+          → RouteFits (listed (cond (a && b) R (refusal 14)) chain waypoints) chain waypoints
       by true true e f = within R (leb-true _ _ e) (leb-true _ _ f)
       by true false e f = within (refusal 14) (omega arith) (omega arith)
       by false b e f = within (refusal 14) (omega arith) (omega arith)
 
-  pub route-fits : (d : Decoded) (from to : Point) → RouteFits (routeOf d from to chain stops) chain stops
+  pub route-fits : (d : Decoded) (from to : Point) → RouteFits (routeOf d from to chain waypoints) chain waypoints
   unfolding routeIn
   route-fits (refused k) from to = within (refusal k) (omega arith) (omega arith)
   route-fits (accepted p) from to = fitted-fits _

@@ -27,11 +27,11 @@ use Rattle.plan_format.specs.declared.Query.the-variants.{Advance, Beside, Rout
 use Rattle.plan_scan.specs.Scan.{Passes, passed-by}
 use Rattle.text.specs.Lines.{planLine}
 use Rattle.replies.specs.Printed.{advanceTextOf, besideTextOf, chainList, metreList, printed, printedBy, repliesTo, replyTo, routeTextOf}
-use Rattle.replies.specs.Printed.{rowList, stopList}
+use Rattle.replies.specs.Printed.{rowList, waypointList}
 
 -- the reply to a query, over the plan p
 unfoldable pub replyOver : Plan → Query → List ℕ
-replyOver p (Route x y z u v w) = routeTextOf (routeOf (accepted p) (point x y z) (point u v w) chainList stopList)
+replyOver p (Route x y z u v w) = routeTextOf (routeOf (accepted p) (point x y z) (point u v w) chainList waypointList)
 replyOver p (Advance lane s offset distance) = advanceTextOf (advanceOf (accepted p) (position lane s offset) distance rowList metreList)
 replyOver p (Beside lane s side) = besideTextOf (besideOf (accepted p) (centerline lane s) side)
 

@@ -27,7 +27,7 @@ use Rattle.replies.specs.declared.Piece.{Piece}
 -- ---- the text of an answer
 
 abbrev pub routeTextOf : RouteLists → List ℕ
-routeTextOf r = routeText (r .answer .number) (r .answer .lanes) (r .answer .points) (r .answer .length) (r .chain) (r .stops)
+routeTextOf r = routeText (r .answer .number) (r .answer .lanes) (r .answer .points) (r .answer .length) (r .chain) (r .waypoints)
 
 abbrev pub advanceTextOf : Answer → List ℕ
 advanceTextOf a = advanceText (a .advanced .number) (a .advanced .keys) (a .advanced .positions) (a .rows) (a .metres)
@@ -41,8 +41,8 @@ besideTextOf b = besideText (b .number) (b .at .lane .0) (b .at .s) (b .at .offs
 abbrev pub chainList : List ℕ
 chainList = replicate 257 0
 
-abbrev pub stopList : List Float
-stopList = replicate 12288 (ofBits binary32 0)
+abbrev pub waypointList : List Float
+waypointList = replicate 12288 (ofBits binary32 0)
 
 abbrev pub rowList : List ℕ
 rowList = replicate 512 0
@@ -51,7 +51,7 @@ abbrev pub metreList : List Float
 metreList = replicate 768 (ofBits binary64 0)
 
 unfoldable pub replyTo : List ℕ → Query → List ℕ
-replyTo f (Route x y z u v w) = routeTextOf (routeOf (decode 0 f) (point x y z) (point u v w) chainList stopList)
+replyTo f (Route x y z u v w) = routeTextOf (routeOf (decode 0 f) (point x y z) (point u v w) chainList waypointList)
 replyTo f (Advance lane s offset distance) = advanceTextOf (advanceOf (decode 0 f) (position lane s offset) distance rowList metreList)
 replyTo f (Beside lane s side) = besideTextOf (besideOf (decode side f) (centerline lane s) side)
 

@@ -20,26 +20,26 @@ use Rattle.route.specs.declared.RouteAnswer.{RouteAnswer}
 use Rattle.text.specs.Lines.{advanceText, besideText, routeText}
 use Rattle.text.specs.Put.{Puts}
 use Rattle.replies.specs.Fits.{AdvanceFits, RouteFits, advance-fits, route-fits}
-use Rattle.replies.specs.Printed.{advanceTextOf, besideTextOf, chainList, metreList, replyTo, room, routeTextOf, rowList, stopList}
+use Rattle.replies.specs.Printed.{advanceTextOf, besideTextOf, chainList, metreList, replyTo, room, routeTextOf, rowList, waypointList}
 
 -- the same text by another name
 pub same-text : {xs ys old new : List ℕ} {at next : ℕ} → xs ≡ ys → Puts xs at old new next → Puts ys at old new next
 same-text {xs} {ys} {old} {new} {at} {next} e P = subst (λ (l : List ℕ). Puts l at old new next) e P
 
-module _ (f : List ℕ) (x y z u v w : Float) (r : RouteAnswer) (chain : List ℕ) (stops : List Float)
-    (e : listsOf r chain stops ≡ routeOf (decode 0 f) (point x y z) (point u v w) chainList stopList) where
-  fits : RouteFits (listsOf r chain stops) chainList stopList
-  fits = rw e (route-fits chainList stopList (decode 0 f) (point x y z) (point u v w))
+module _ (f : List ℕ) (x y z u v w : Float) (r : RouteAnswer) (chain : List ℕ) (waypoints : List Float)
+    (e : listsOf r chain waypoints ≡ routeOf (decode 0 f) (point x y z) (point u v w) chainList waypointList) where
+  fits : RouteFits (listsOf r chain waypoints) chainList waypointList
+  fits = rw e (route-fits chainList waypointList (decode 0 f) (point x y z) (point u v w))
 
   pub route-room : (n : ℕ) → room ≤ n
-      → (r .lanes ≤ length chain) × (3 * r .points ≤ length stops) × (0 + 78 + 26 * r .lanes + 33 * r .points ≤ n)
+      → (r .lanes ≤ length chain) × (3 * r .points ≤ length waypoints) × (0 + 78 + 26 * r .lanes + 33 * r .points ≤ n)
   route-room n h =
       let F = fits in
       let a = length-replicate {A = ℕ} 257 0 in
       let b = length-replicate 12288 (ofBits binary32 0) in
       omega arith
 
-  pub route-replied : {old new : List ℕ} {len : ℕ} → Puts (routeText (r .number) (r .lanes) (r .points) (r .length) chain stops) 0 old new len
+  pub route-replied : {old new : List ℕ} {len : ℕ} → Puts (routeText (r .number) (r .lanes) (r .points) (r .length) chain waypoints) 0 old new len
       × (len ≤ 0 + 78 + 26 * r .lanes + 33 * r .points)
       → Puts (replyTo f (Route x y z u v w)) 0 old new len × (len ≤ room)
   unfolding replyTo

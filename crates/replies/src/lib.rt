@@ -38,10 +38,10 @@ fn ask_route(
     v: f32,
     w: f32,
     chain: &mut [usize],
-    stops: &mut [f32],
+    waypoints: &mut [f32],
 ) -> RouteAnswer
-    ensures { λ r. ⌜ listsOf r (now (chain .exit)) (now (stops .exit))
-        ≡ routeOf (decode 0 (now (file .entry))) (point x y z) (point u v w) (now (chain .entry)) (now (stops .entry)) ⌝ }
+    ensures { λ r. ⌜ listsOf r (now (chain .exit)) (now (waypoints .exit))
+        ≡ routeOf (decode 0 (now (file .entry))) (point x y z) (point u v w) (now (chain .entry)) (now (waypoints .entry)) ⌝ }
 {
     let mut lanes = [0usize; 1536];
     let mut points = [0f32; 12288];
@@ -74,7 +74,7 @@ fn ask_route(
         &mut cumulative,
         &mut tangents,
         chain,
-        stops,
+        waypoints,
     )
 }
 
@@ -163,15 +163,15 @@ fn route_reply(file: &[u8], x: f32, y: f32, z: f32, u: f32, v: f32, w: f32, out:
     ensures { λ r. ⌜ Puts (replyTo (now (file .entry)) (Route x y z u v w)) 0 (now (out .entry)) (now (out .exit)) r × (r ≤ room) ⌝ }
 {
     let mut chain = [0usize; 257];
-    let mut stops = [0f32; 12288];
-    let a = ask_route(file, x, y, z, u, v, w, &mut chain, &mut stops);
+    let mut waypoints = [0f32; 12288];
+    let a = ask_route(file, x, y, z, u, v, w, &mut chain, &mut waypoints);
     text::route_text(
         a.number,
         a.lanes,
         a.points,
         a.length,
         &chain,
-        &stops,
+        &waypoints,
         out,
         0,
     )

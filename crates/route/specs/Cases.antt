@@ -88,7 +88,7 @@ sampled p path s t = sampleRoute (tablesOf p) path s t
 unfoldable route : Plan → Point → Point → ℕ → ℕ → Routed
 unfolding sampled routeIn fitted routed between followed pathBy suffices lengthsTo searched run rebuild leastOpen relaxed expanded settled marked
     blank edges out flat nearestLane lanesAfter
-route p from to chainRoom stopsRoom = routeIn p from to chainRoom stopsRoom
+route p from to chainRoom waypointRoom = routeIn p from to chainRoom waypointRoom
 
 -- a route over two lanes, and what it costs
 abbrev over : ℕ → List Point → Float → Routed

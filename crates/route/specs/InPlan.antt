@@ -52,10 +52,10 @@ module _ (p : Plan) (A : Accepted p) where
       }
 
   -- what `route` answers over the plan's rows
-  pub route-is : (from to : Point) (chainRoom stopsRoom : ℕ)
-      → fitted chainRoom stopsRoom
+  pub route-is : (from to : Point) (chainRoom waypointRoom : ℕ)
+      → fitted chainRoom waypointRoom
       (routed (tablesOf p) (length (p .lanes)) (lanesFrom (planRows p .lanes) (planRows p .points) (length (p .lanes)) 0) from to)
-      ≡ routeIn p from to chainRoom stopsRoom
+      ≡ routeIn p from to chainRoom waypointRoom
   unfolding routeIn
-  route-is from to chainRoom stopsRoom =
-      ap (λ (ls : List Lane). fitted chainRoom stopsRoom (routed (tablesOf p) (length (p .lanes)) ls from to)) (lanes-are p A)
+  route-is from to chainRoom waypointRoom =
+      ap (λ (ls : List Lane). fitted chainRoom waypointRoom (routed (tablesOf p) (length (p .lanes)) ls from to)) (lanes-are p A)

@@ -80,7 +80,7 @@ routed T n ls from to =
 
 -- NUMBER 14 where the lists for the lanes and for the points, of so many entries each, do not hold the answer
 unfoldable pub fitted : ℕ → ℕ → Routed → Routed
-fitted chainRoom stopsRoom R = cond (leb (length (R .chain)) chainRoom && leb (length (R .points)) stopsRoom) R (refusal 14)
+fitted chainRoom waypointRoom R = cond (leb (length (R .chain)) chainRoom && leb (length (R .points)) waypointRoom) R (refusal 14)
 
 -- ---- over a plan
 
@@ -89,7 +89,7 @@ tablesOf p = routeTables (planRows p .lanes) (planRows p .points) (laneRows p .c
 
 -- the route of a plan from one point to another, into lists with so much room
 unfoldable pub routeIn : Plan → Point → Point → ℕ → ℕ → Routed
-routeIn p from to chainRoom stopsRoom = fitted chainRoom stopsRoom (routed (tablesOf p) (length (p .lanes)) (lanesOf p) from to)
+routeIn p from to chainRoom waypointRoom = fitted chainRoom waypointRoom (routed (tablesOf p) (length (p .lanes)) (lanesOf p) from to)
 
 -- ---- what is promised
 
@@ -98,10 +98,10 @@ unfoldable pub answerOf : Routed → RouteAnswer
 answerOf R = record { number = R .number; lanes = length (R .chain); points = length (R .points) / 3; length = R .length }
 
 -- the answer, and the lists: the chain and the points at their fronts, the entries past them as before
-pub record Routes (R : Routed) (r : RouteAnswer) (chain chain′ : List ℕ) (stops stops′ : List Float) : Type 0 where
+pub record Routes (R : Routed) (r : RouteAnswer) (chain chain′ : List ℕ) (waypoints waypoints′ : List Float) : Type 0 where
   pub answer-is : r ≡ answerOf R
   pub chain-is : chain′ ≡ over (R .chain) chain
-  pub stops-is : stops′ ≡ over (R .points) stops
+  pub waypoints-is : waypoints′ ≡ over (R .points) waypoints
 
 -- ---- what the rows of n lanes must be
 

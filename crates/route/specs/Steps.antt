@@ -161,19 +161,19 @@ chain-whole lanes path old out k h e = e ∙ ap (λ (xs : List ℕ). over (map (
 -- ---- the answer
 
 -- a refusal: the lists are as before
-pub refuses : (n : ℕ) (r : RouteAnswer) (chain : List ℕ) (stops : List Float) → r ≡ answerOf (refusal n)
-    → Routes (refusal n) r chain chain stops stops
-refuses n r chain stops e = record { answer-is = e; chain-is = refl; stops-is = refl }
+pub refuses : (n : ℕ) (r : RouteAnswer) (chain : List ℕ) (waypoints : List Float) → r ≡ answerOf (refusal n)
+    → Routes (refusal n) r chain chain waypoints waypoints
+refuses n r chain waypoints e = record { answer-is = e; chain-is = refl; waypoints-is = refl }
 
-pub routes-as : (R R′ : Routed) (r : RouteAnswer) (chain chain′ : List ℕ) (stops stops′ : List Float) → R ≡ R′
-    → Routes R r chain chain′ stops stops′ → Routes R′ r chain chain′ stops stops′
-routes-as R R′ r chain chain′ stops stops′ e P = subst (λ (Q : Routed). Routes Q r chain chain′ stops stops′) e P
+pub routes-as : (R R′ : Routed) (r : RouteAnswer) (chain chain′ : List ℕ) (waypoints waypoints′ : List Float) → R ≡ R′
+    → Routes R r chain chain′ waypoints waypoints′ → Routes R′ r chain chain′ waypoints waypoints′
+routes-as R R′ r chain chain′ waypoints waypoints′ e P = subst (λ (Q : Routed). Routes Q r chain chain′ waypoints waypoints′) e P
 
 -- a refusal fits everywhere
-pub refusal-fits : (chainRoom stopsRoom n : ℕ) → refusal n ≡ fitted chainRoom stopsRoom (refusal n)
+pub refusal-fits : (chainRoom waypointRoom n : ℕ) → refusal n ≡ fitted chainRoom waypointRoom (refusal n)
 unfolding fitted
-refusal-fits chainRoom stopsRoom n =
-    ap₂ (λ (x y : Bool). cond (x && y) (refusal n) (refusal 14)) (sym (le-leb 0 chainRoom (omega arith))) (sym (le-leb 0 stopsRoom (omega arith)))
+refusal-fits chainRoom waypointRoom n =
+    ap₂ (λ (x y : Bool). cond (x && y) (refusal n) (refusal 14)) (sym (le-leb 0 chainRoom (omega arith))) (sym (le-leb 0 waypointRoom (omega arith)))
 
 module _ (T : RouteTables) (path : List ℕ) (cost s t : Float) where
   all : List Point
@@ -191,35 +191,36 @@ module _ (T : RouteTables) (path : List ℕ) (cost s t : Float) where
   count-points = length-flat (sampleRoute T path s t)
 
   -- the chain does not fit
-  pub chain-over : (chainRoom stopsRoom : ℕ) → chainRoom < length path → refusal 14 ≡ fitted chainRoom stopsRoom (followed T s t (found path cost))
+  pub chain-over : (chainRoom waypointRoom : ℕ) → chainRoom < length path
+      → refusal 14 ≡ fitted chainRoom waypointRoom (followed T s t (found path cost))
   unfolding fitted route
-  chain-over chainRoom stopsRoom h =
+  chain-over chainRoom waypointRoom h =
       let e = count-chain in
       let f : leb (length (route .chain)) chainRoom ≡ false = lt-leb (length (route .chain)) chainRoom (omega arith) in
-      ap (λ (x : Bool). cond (x && leb (length (route .points)) stopsRoom) route (refusal 14)) (sym f)
+      ap (λ (x : Bool). cond (x && leb (length (route .points)) waypointRoom) route (refusal 14)) (sym f)
 
   -- the points do not
-  pub points-over : (chainRoom stopsRoom : ℕ) → stopsRoom / 3 < length (sampleRoute T path s t) → refusal 14 ≡ fitted chainRoom stopsRoom
+  pub points-over : (chainRoom waypointRoom : ℕ) → waypointRoom / 3 < length (sampleRoute T path s t) → refusal 14 ≡ fitted chainRoom waypointRoom
       (followed T s t (found path cost))
   unfolding fitted route
-  points-over chainRoom stopsRoom h = go (leb (length (route .chain)) chainRoom)
+  points-over chainRoom waypointRoom h = go (leb (length (route .chain)) chainRoom)
     where
-      f : leb (length (route .points)) stopsRoom ≡ false
-      f = let e = count-points in lt-leb (length (route .points)) stopsRoom (omega arith)
+      f : leb (length (route .points)) waypointRoom ≡ false
+      f = let e = count-points in lt-leb (length (route .points)) waypointRoom (omega arith)
 
-      go : (b : Bool) → refusal 14 ≡ cond (b && leb (length (route .points)) stopsRoom) route (refusal 14)
+      go : (b : Bool) → refusal 14 ≡ cond (b && leb (length (route .points)) waypointRoom) route (refusal 14)
       go true = ap (λ (y : Bool). cond y route (refusal 14)) (sym f)
       go false = refl
 
   -- both do
-  pub route-fits : (chainRoom stopsRoom : ℕ) → length path ≤ chainRoom → 3 * length (sampleRoute T path s t) ≤ stopsRoom
-      → followed T s t (found path cost) ≡ fitted chainRoom stopsRoom (followed T s t (found path cost))
+  pub route-fits : (chainRoom waypointRoom : ℕ) → length path ≤ chainRoom → 3 * length (sampleRoute T path s t) ≤ waypointRoom
+      → followed T s t (found path cost) ≡ fitted chainRoom waypointRoom (followed T s t (found path cost))
   unfolding fitted route
-  route-fits chainRoom stopsRoom h l =
+  route-fits chainRoom waypointRoom h l =
       let e = count-chain in
       let g = count-points in
       ap₂ (λ (x y : Bool). cond (x && y) route (refusal 14)) (sym (le-leb (length (route .chain)) chainRoom (omega arith)))
-      (sym (le-leb (length (route .points)) stopsRoom (omega arith)))
+      (sym (le-leb (length (route .points)) waypointRoom (omega arith)))
 
   -- the answer's fields
   pub route-answer : (count : ℕ) → count ≡ length (sampleRoute T path s t)
@@ -233,48 +234,48 @@ module _ (T : RouteTables) (path : List ℕ) (cost s t : Float) where
 
 -- ---- which case it is, into lists with so much room
 
-module _ (T : RouteTables) (n chainRoom stopsRoom : ℕ) where
+module _ (T : RouteTables) (n chainRoom waypointRoom : ℕ) where
   -- no path, and a path
-  pub path-refused : (s t : Float) (X : Result Float) → X ≡ refused → refusal 11 ≡ fitted chainRoom stopsRoom (followed T s t X)
+  pub path-refused : (s t : Float) (X : Result Float) → X ≡ refused → refusal 11 ≡ fitted chainRoom waypointRoom (followed T s t X)
   unfolding followed
-  path-refused s t X e = refusal-fits chainRoom stopsRoom 11 ∙ ap (λ (Y : Result Float). fitted chainRoom stopsRoom (followed T s t Y)) (sym e)
+  path-refused s t X e = refusal-fits chainRoom waypointRoom 11 ∙ ap (λ (Y : Result Float). fitted chainRoom waypointRoom (followed T s t Y)) (sym e)
 
   pub path-taken : (s t cost : Float) (path : List ℕ) (X : Result Float) → X ≡ found path cost
-      → fitted chainRoom stopsRoom (followed T s t (found path cost)) ≡ fitted chainRoom stopsRoom (followed T s t X)
-  path-taken s t cost path X e = ap (λ (Y : Result Float). fitted chainRoom stopsRoom (followed T s t Y)) (sym e)
+      → fitted chainRoom waypointRoom (followed T s t (found path cost)) ≡ fitted chainRoom waypointRoom (followed T s t X)
+  path-taken s t cost path X e = ap (λ (Y : Result Float). fitted chainRoom waypointRoom (followed T s t Y)) (sym e)
 
   -- no lane drives, and two lanes
   module _ (from to : Nearest) where
-    pub from-none : from ≡ None → refusal 10 ≡ fitted chainRoom stopsRoom (between T n from to)
+    pub from-none : from ≡ None → refusal 10 ≡ fitted chainRoom waypointRoom (between T n from to)
     unfolding between
-    from-none e = refusal-fits chainRoom stopsRoom 10 ∙ ap (λ (x : Nearest). fitted chainRoom stopsRoom (between T n x to)) (sym e)
+    from-none e = refusal-fits chainRoom waypointRoom 10 ∙ ap (λ (x : Nearest). fitted chainRoom waypointRoom (between T n x to)) (sym e)
 
     module _ (d : Float) (i start : ℕ) (q : Projection) (e : from ≡ Found d i start q) where
-      pub to-none : to ≡ None → refusal 10 ≡ fitted chainRoom stopsRoom (between T n from to)
+      pub to-none : to ≡ None → refusal 10 ≡ fitted chainRoom waypointRoom (between T n from to)
       unfolding between
-      to-none f = refusal-fits chainRoom stopsRoom 10 ∙ ap₂ (λ (x y : Nearest). fitted chainRoom stopsRoom (between T n x y)) (sym e) (sym f)
+      to-none f = refusal-fits chainRoom waypointRoom 10 ∙ ap₂ (λ (x y : Nearest). fitted chainRoom waypointRoom (between T n x y)) (sym e) (sym f)
 
       pub both-found : (c : Float) (j goal : ℕ) (r : Projection) → to ≡ Found c j goal r
-          → fitted chainRoom stopsRoom (followed T (q .s) (r .s) (pathOf (T .lanes) (graphOf T n) start (q .s) goal (r .s)))
-          ≡ fitted chainRoom stopsRoom (between T n from to)
+          → fitted chainRoom waypointRoom (followed T (q .s) (r .s) (pathOf (T .lanes) (graphOf T n) start (q .s) goal (r .s)))
+          ≡ fitted chainRoom waypointRoom (between T n from to)
       unfolding between
-      both-found c j goal r f = ap₂ (λ (x y : Nearest). fitted chainRoom stopsRoom (between T n x y)) (sym e) (sym f)
+      both-found c j goal r f = ap₂ (λ (x y : Nearest). fitted chainRoom waypointRoom (between T n x y)) (sym e) (sym f)
 
   -- the points are finite, or not
   module _ (ls : List Lane) (from to : Point) (b : Bool) (e : b ≡ finitePoint from && finitePoint to) where
     pub both-near : (x y : Nearest) → b ≡ true → x ≡ told (nearestLane drivesTable ls from) → y ≡ told (nearestLane drivesTable ls to)
-        → fitted chainRoom stopsRoom (between T n x y) ≡ fitted chainRoom stopsRoom (routed T n ls from to)
+        → fitted chainRoom waypointRoom (between T n x y) ≡ fitted chainRoom waypointRoom (routed T n ls from to)
     unfolding routed
     both-near x y t f g =
-        ap₂ (λ (v w : Nearest). fitted chainRoom stopsRoom (between T n v w)) f g
-        ∙ ap (λ (a : Bool). fitted chainRoom stopsRoom
+        ap₂ (λ (v w : Nearest). fitted chainRoom waypointRoom (between T n v w)) f g
+        ∙ ap (λ (a : Bool). fitted chainRoom waypointRoom
         (cond a (between T n (told (nearestLane drivesTable ls from)) (told (nearestLane drivesTable ls to))) (refusal 9))) (sym t ∙ e)
 
-    pub not-finite : b ≡ false → refusal 9 ≡ fitted chainRoom stopsRoom (routed T n ls from to)
+    pub not-finite : b ≡ false → refusal 9 ≡ fitted chainRoom waypointRoom (routed T n ls from to)
     unfolding routed
     not-finite t =
-        refusal-fits chainRoom stopsRoom 9
-        ∙ ap (λ (a : Bool). fitted chainRoom stopsRoom
+        refusal-fits chainRoom waypointRoom 9
+        ∙ ap (λ (a : Bool). fitted chainRoom waypointRoom
         (cond a (between T n (told (nearestLane drivesTable ls from)) (told (nearestLane drivesTable ls to))) (refusal 9))) (sym t ∙ e)
 
 -- ---- the rows that are nearest

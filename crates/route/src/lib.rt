@@ -183,15 +183,15 @@ fn write_points(
     path: &[usize],
     s: f32,
     t: f32,
-    stops: &mut [f32],
+    waypoints: &mut [f32],
 )
     requires { ⌜ PathRows (now path) n × AllLaid (now lanes) n (now points) (now cumulative) × AllLinked (now fans) n (now links)
         × (3 * length (sampleRoute (routeTables (now lanes) (now points) (now cumulative) (now fans) (now links)) (now path) s t)
-        ≤ length (now stops)) ⌝ }
-    ensures { λ _. ⌜ now (stops .exit) ≡ over (flat (sampleRoute (routeTables (now (lanes .entry)) (now (points .entry))
-        (now (cumulative .entry)) (now (fans .entry)) (now (links .entry))) (now (path .entry)) s t)) (now (stops .entry)) ⌝ }
+        ≤ length (now waypoints)) ⌝ }
+    ensures { λ _. ⌜ now (waypoints .exit) ≡ over (flat (sampleRoute (routeTables (now (lanes .entry)) (now (points .entry))
+        (now (cumulative .entry)) (now (fans .entry)) (now (links .entry))) (now (path .entry)) s t)) (now (waypoints .entry)) ⌝ }
 {
-    let room = stops.len() / 3;
+    let room = waypoints.len() / 3;
     sampling::sample_route(
         lanes,
         n,
@@ -203,7 +203,7 @@ fn write_points(
         s,
         t,
         room,
-        stops,
+        waypoints,
     );
 }
 
@@ -220,23 +220,34 @@ fn follow(
     s: f32,
     t: f32,
     chain: &mut [usize],
-    stops: &mut [f32],
+    waypoints: &mut [f32],
 ) -> RouteAnswer
     requires { ⌜ PathRows (now path) n × Routable (routeTables (now lanes) (now points) (now cumulative) (now fans) (now links)) n ⌝ }
-    ensures { λ r. ⌜ Routes (fitted (length (now (chain .entry))) (length (now (stops .entry))) (followed
+    ensures { λ r. ⌜ Routes (fitted (length (now (chain .entry))) (length (now (waypoints .entry))) (followed
         (routeTables (now (lanes .entry)) (now (points .entry)) (now (cumulative .entry)) (now (fans .entry)) (now (links .entry))) s t
-        (found (now (path .entry)) cost))) r (now (chain .entry)) (now (chain .exit)) (now (stops .entry)) (now (stops .exit)) ⌝ }
+        (found (now (path .entry)) cost))) r (now (chain .entry)) (now (chain .exit)) (now (waypoints .entry)) (now (waypoints .exit)) ⌝ }
 {
     if chain.len() < path.len() {
         return refused(14);
     }
-    let room = stops.len() / 3;
+    let room = waypoints.len() / 3;
     let count = count_points(lanes, n, points, cumulative, fans, links, path, s, t, room);
     if room < count {
         return refused(14);
     }
     write_chain(lanes, n, path, chain);
-    write_points(lanes, n, points, cumulative, fans, links, path, s, t, stops);
+    write_points(
+        lanes,
+        n,
+        points,
+        cumulative,
+        fans,
+        links,
+        path,
+        s,
+        t,
+        waypoints,
+    );
     RouteAnswer {
         number: 0,
         lanes: path.len(),
@@ -258,13 +269,14 @@ fn find_and_follow(
     goal: usize,
     t: f32,
     chain: &mut [usize],
-    stops: &mut [f32],
+    waypoints: &mut [f32],
 ) -> RouteAnswer
     requires { ⌜ (start < n) × (goal < n) × Routable (routeTables (now lanes) (now points) (now cumulative) (now fans) (now links)) n ⌝ }
-    ensures { λ r. ⌜ Routes (fitted (length (now (chain .entry))) (length (now (stops .entry)))
+    ensures { λ r. ⌜ Routes (fitted (length (now (chain .entry))) (length (now (waypoints .entry)))
         (followed (routeTables (now (lanes .entry)) (now (points .entry)) (now (cumulative .entry)) (now (fans .entry)) (now (links .entry))) s t
         (pathOf (now (lanes .entry)) (laneGraph n (now (fans .entry)) (now (links .entry))
-        (lengthsTo (now (lanes .entry)) (now (cumulative .entry)) n)) start s goal t))) r (now (chain .entry)) (now (chain .exit)) (now (stops .entry)) (now (stops .exit)) ⌝ }
+        (lengthsTo (now (lanes .entry)) (now (cumulative .entry)) n)) start s goal t)))
+        r (now (chain .entry)) (now (chain .exit)) (now (waypoints .entry)) (now (waypoints .exit)) ⌝ }
 {
     let a = lane_path(lanes, n, cumulative, fans, links, start, s, goal, t);
     if !a.ok {
@@ -285,7 +297,7 @@ fn find_and_follow(
         s,
         t,
         chain,
-        stops,
+        waypoints,
     )
 }
 
@@ -300,12 +312,12 @@ fn between(
     from: Nearest,
     to: Nearest,
     chain: &mut [usize],
-    stops: &mut [f32],
+    waypoints: &mut [f32],
 ) -> RouteAnswer
     requires { ⌜ RowIn n from × RowIn n to × Routable (routeTables (now lanes) (now points) (now cumulative) (now fans) (now links)) n ⌝ }
-    ensures { λ r. ⌜ Routes (fitted (length (now (chain .entry))) (length (now (stops .entry)))
+    ensures { λ r. ⌜ Routes (fitted (length (now (chain .entry))) (length (now (waypoints .entry)))
         (between (routeTables (now (lanes .entry)) (now (points .entry)) (now (cumulative .entry)) (now (fans .entry)) (now (links .entry)))
-        n from to)) r (now (chain .entry)) (now (chain .exit)) (now (stops .entry)) (now (stops .exit)) ⌝ }
+        n from to)) r (now (chain .entry)) (now (chain .exit)) (now (waypoints .entry)) (now (waypoints .exit)) ⌝ }
 {
     let Nearest::Found(_, _, start, p) = from else {
         return refused(10);
@@ -327,7 +339,7 @@ fn between(
         goal,
         t,
         chain,
-        stops,
+        waypoints,
     )
 }
 
@@ -340,7 +352,7 @@ fn both_finite(from: Point, to: Point) -> bool
     false
 }
 
-// A route from one point to another over the n lanes of the tables: the numbers of its lanes in `chain`, x y z of its points in `stops`.
+// A route from one point to another over the n lanes of the tables: the numbers of its lanes in `chain`, x y z of its points in `waypoints`.
 pub fn route(
     from: Point,
     to: Point,
@@ -351,13 +363,13 @@ pub fn route(
     fans: &[usize],
     links: &[usize],
     chain: &mut [usize],
-    stops: &mut [f32],
+    waypoints: &mut [f32],
 ) -> RouteAnswer
     requires { ⌜ Routable (routeTables (now lanes) (now points) (now cumulative) (now fans) (now links)) n ⌝ }
-    ensures { λ r. ⌜ Routes (fitted (length (now (chain .entry))) (length (now (stops .entry)))
+    ensures { λ r. ⌜ Routes (fitted (length (now (chain .entry))) (length (now (waypoints .entry)))
         (routed (routeTables (now (lanes .entry)) (now (points .entry)) (now (cumulative .entry)) (now (fans .entry)) (now (links .entry)))
         n (lanesFrom (now (lanes .entry)) (now (points .entry)) n 0) from to))
-        r (now (chain .entry)) (now (chain .exit)) (now (stops .entry)) (now (stops .exit)) ⌝ }
+        r (now (chain .entry)) (now (chain .exit)) (now (waypoints .entry)) (now (waypoints .exit)) ⌝ }
 {
     if both_finite(from, to) {
         let pair = nearest::nearest_rows(lanes, n, points, cumulative, from, to);
@@ -373,7 +385,7 @@ pub fn route(
             a,
             b,
             chain,
-            stops,
+            waypoints,
         );
     }
     refused(9)

@@ -240,7 +240,8 @@ module _ (p : Plan) (A : Accepted p) where
         ≡ follow (pathResult (oneLane p a b))
     unfolding between tablesOf
     path-is =
-        ap follow (ap (λ (x : Bool). pathBy x (planRows p .lanes) (graphOf (tablesOf p) (length (p .lanes))) start goal) suffices-is ∙ path-by (oneLane p a b))
+        ap follow (ap (λ (x : Bool). pathBy x (planRows p .lanes) (graphOf (tablesOf p) (length (p .lanes))) start goal) suffices-is
+        ∙ path-by (oneLane p a b))
 
     whole-is : wholeRoute p from to ≡ follow (pathResult (oneLane p a b))
     whole-is = whole-between from to F G ∙ ap₂ answersOf (S .is) (Z .is) ∙ path-is

@@ -17,7 +17,7 @@ returns c =
     let bytes : Bytes (a .file .now) = (λ i. omega (arith, c₄ .shared-slice-known .given i)) in
     let calls = c₂ .route .ensures in (
       calls,
-      route-kept (a .file .now) bytes _ _ (point (a .x) (a .y) (a .z)) (point (a .u) (a .v) (a .w)) (a .chain .now) _ (a .stops .now) _ _ calls,
+      route-kept (a .file .now) bytes _ _ (point (a .x) (a .y) (a .z)) (point (a .u) (a .v) (a .w)) (a .chain .now) _ (a .waypoints .now) _ _ calls,
     )
 
 pub route-spec : {M : Type 1} → statement M

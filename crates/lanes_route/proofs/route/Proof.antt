@@ -59,10 +59,10 @@ returns c =
     let known = c₃ .before .before .before .before .before .before .before .before .shared-slice-known in
     let bytes : Bytes (a .file .now) = (λ i. omega (arith, known .given i)) in
     calls-refused
-    (λ (d : Decoded). routeOf d (point (a .x) (a .y) (a .z)) (point (a .u) (a .v) (a .w)) (a .chain .now) (a .stops .now)) 0
-    (a .file .now) bytes (opens .result) _ _ (opens .ensures) (listsOf (c .refused .result) (a .chain .now) (a .stops .now))
+    (λ (d : Decoded). routeOf d (point (a .x) (a .y) (a .z)) (point (a .u) (a .v) (a .w)) (a .chain .now) (a .waypoints .now)) 0
+    (a .file .now) bytes (opens .result) _ _ (opens .ensures) (listsOf (c .refused .result) (a .chain .now) (a .waypoints .now))
     (c .before .if1 .taken)
-    (ap (λ (r : RouteAnswer). listsOf r (a .chain .now) (a .stops .now)) (c .refused .ensures))
+    (ap (λ (r : RouteAnswer). listsOf r (a .chain .now) (a .waypoints .now)) (c .refused .ensures))
 
 route-from-requires : tie.Need-route-from-requires
 route-from-requires c κs =
@@ -141,7 +141,7 @@ returns-2 c =
     let bytes : Bytes (a .file .now) = (λ i. omega (arith, known .given i)) in
     route-calls 0 (a .file .now) bytes (opens .result) _ _ (opens .ensures)
     (c .before .before .before .before .before .before .before .before .before .before .before .before .if1 .left) (point (a .x) (a .y) (a .z))
-    (point (a .u) (a .v) (a .w)) (a .chain .now) _ (a .stops .now) _ _ (c .before .before .before .before .route-from .ensures)
+    (point (a .u) (a .v) (a .w)) (a .chain .now) _ (a .waypoints .now) _ _ (c .before .before .before .before .route-from .ensures)
 
 pub route-spec : {M : Type 1} → statement M
 route-spec =

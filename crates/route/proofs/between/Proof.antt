@@ -21,8 +21,8 @@ returns c =
     let c₁ = c .before .before .before .before .before .before .before .before .before .before in
     let a = c₁ .args in
     let T = routeTables (a .lanes .now) (a .points .now) (a .cumulative .now) (a .fans .now) (a .links .now) in
-    routes-as (refusal 10) _ _ (a .chain .now) _ (a .stops .now) _ (from-none T (a .n) (length (a .chain .now)) (length (a .stops .now))
-    (a .from) (a .to) (c .before .enum-told .given .1)) (refuses 10 _ (a .chain .now) (a .stops .now) (c .refused .ensures))
+    routes-as (refusal 10) _ _ (a .chain .now) _ (a .waypoints .now) _ (from-none T (a .n) (length (a .chain .now)) (length (a .waypoints .now))
+    (a .from) (a .to) (c .before .enum-told .given .1)) (refuses 10 _ (a .chain .now) (a .waypoints .now) (c .refused .ensures))
 
 enum-known-to : tie.Need-enum-known-to
 enum-known-to c = search needs
@@ -39,9 +39,9 @@ returns-2 c =
     let c₂ = c₁ .before .before .before .before .before .before .before .before .before in
     let a = c₂ .args in
     let T = routeTables (a .lanes .now) (a .points .now) (a .cumulative .now) (a .fans .now) (a .links .now) in
-    routes-as (refusal 10) _ _ (a .chain .now) _ (a .stops .now) _ (to-none T (a .n) (length (a .chain .now)) (length (a .stops .now))
+    routes-as (refusal 10) _ _ (a .chain .now) _ (a .waypoints .now) _ (to-none T (a .n) (length (a .chain .now)) (length (a .waypoints .now))
     (a .from) (a .to) _ _ _ _ (c₁ .from .given .1) (c .before .enum-told2 .given .1))
-    (refuses 10 _ (a .chain .now) (a .stops .now) (c .refused2 .ensures))
+    (refuses 10 _ (a .chain .now) (a .waypoints .now) (c .refused2 .ensures))
 
 find-and-follow-requires : tie.Need-find-and-follow-requires
 find-and-follow-requires c κs =
@@ -67,7 +67,7 @@ returns-3 c =
     let c₄ = c₃ .before .before .before .before .before .before .before .before .before in
     let a = c₄ .args in
     let T = routeTables (a .lanes .now) (a .points .now) (a .cumulative .now) (a .fans .now) (a .links .now) in
-    routes-as _ _ _ (a .chain .now) _ (a .stops .now) _ (both-found T (a .n) (length (a .chain .now)) (length (a .stops .now)) (a .from)
+    routes-as _ _ _ (a .chain .now) _ (a .waypoints .now) _ (both-found T (a .n) (length (a .chain .now)) (length (a .waypoints .now)) (a .from)
     (a .to) _ _ _ _ (c₃ .from .given .1) _ _ _ _ (c₂ .to .given .1)) (c₁ .find-and-follow .ensures)
 
 pub between-spec : {M : Type 1} → statement M

@@ -31,8 +31,8 @@ returns c =
     let G = graphOf T (a .n) in
     let X = pathOf (a .lanes .now) G (a .start) (a .s) (a .goal) (a .t) in
     let e = path-none (c₁ .lane-path .result) X (c₁ .lane-path .ensures) (not-true (c₁ .lane-path .result .ok) (c .before .if1 .taken)) in
-    routes-as (refusal 11) _ _ (a .chain .now) _ (a .stops .now) _ (path-refused T (a .n) (length (a .chain .now)) (length (a .stops .now))
-    (a .s) (a .t) X e) (refuses 11 _ (a .chain .now) (a .stops .now) (c .refused .ensures))
+    routes-as (refusal 11) _ _ (a .chain .now) _ (a .waypoints .now) _ (path-refused T (a .n) (length (a .chain .now)) (length (a .waypoints .now))
+    (a .s) (a .t) X e) (refuses 11 _ (a .chain .now) (a .waypoints .now) (c .refused .ensures))
 
 array-share-prefix-path : tie.Need-array-share-prefix-path
 array-share-prefix-path c =
@@ -80,9 +80,9 @@ returns-2 c =
     let r = c₃ .lane-path .result in
     let F = path-found r X (a .n) (path-rows (suffices (a .lanes .now) (a .start) (a .s) (a .goal) (a .t)) (a .lanes .now) G (a .start) (a .goal)
     (c₄ .pre .0) (c₄ .pre .1)) (c₃ .lane-path .ensures) (not-false (r .ok) (c₂ .if1 .left)) in
-    routes-as (fitted (length (a .chain .now)) (length (a .stops .now)) (followed T (a .s) (a .t)
-    (found (take (r .count) (r .path)) (r .cost)))) _ _ (a .chain .now) _ (a .stops .now) _
-    (path-taken T (a .n) (length (a .chain .now)) (length (a .stops .now)) (a .s) (a .t) (r .cost) (take (r .count) (r .path)) X (F .is))
+    routes-as (fitted (length (a .chain .now)) (length (a .waypoints .now)) (followed T (a .s) (a .t)
+    (found (take (r .count) (r .path)) (r .cost)))) _ _ (a .chain .now) _ (a .waypoints .now) _
+    (path-taken T (a .n) (length (a .chain .now)) (length (a .waypoints .now)) (a .s) (a .t) (r .cost) (take (r .count) (r .path)) X (F .is))
     (c₁ .follow .ensures)
 
 pub find-and-follow-spec : {M : Type 1} → statement M

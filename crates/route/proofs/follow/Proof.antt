@@ -18,8 +18,8 @@ returns c =
     let c₁ = c .before .before .before .before .before .before .before .before .before .before in
     let a = c₁ .args in
     let T = routeTables (a .lanes .now) (a .points .now) (a .cumulative .now) (a .fans .now) (a .links .now) in
-    routes-as (refusal 14) _ _ (a .chain .now) _ (a .stops .now) _ (chain-over T (a .path .now) (a .cost) (a .s) (a .t) (length (a .chain .now))
-    (length (a .stops .now)) (c .before .if1 .taken)) (refuses 14 _ (a .chain .now) (a .stops .now) (c .refused .ensures))
+    routes-as (refusal 14) _ _ (a .chain .now) _ (a .waypoints .now) _ (chain-over T (a .path .now) (a .cost) (a .s) (a .t) (length (a .chain .now))
+    (length (a .waypoints .now)) (c .before .if1 .taken)) (refuses 14 _ (a .chain .now) (a .waypoints .now) (c .refused .ensures))
 
 count-points-requires : tie.Need-count-points-requires
 count-points-requires c κs =
@@ -39,9 +39,9 @@ returns-2 c =
     let c₁ = c .before .before .before .before .before .before .before .before .before .before .before .before in
     let a = c₁ .args in
     let T = routeTables (a .lanes .now) (a .points .now) (a .cumulative .now) (a .fans .now) (a .links .now) in
-    routes-as (refusal 14) _ _ (a .chain .now) _ (a .stops .now) _ (points-over T (a .path .now) (a .cost) (a .s) (a .t)
-    (length (a .chain .now)) (length (a .stops .now)) (count-over _ _ _ (c .before .before .count-points .ensures) (c .before .if2 .taken)))
-    (refuses 14 _ (a .chain .now) (a .stops .now) (c .refused2 .ensures))
+    routes-as (refusal 14) _ _ (a .chain .now) _ (a .waypoints .now) _ (points-over T (a .path .now) (a .cost) (a .s) (a .t)
+    (length (a .chain .now)) (length (a .waypoints .now)) (count-over _ _ _ (c .before .before .count-points .ensures) (c .before .if2 .taken)))
+    (refuses 14 _ (a .chain .now) (a .waypoints .now) (c .refused2 .ensures))
 
 write-chain-requires : tie.Need-write-chain-requires
 write-chain-requires c κs =
@@ -81,14 +81,14 @@ returns-3 c =
     let a = c₅ .args in
     let T = routeTables (a .lanes .now) (a .points .now) (a .cumulative .now) (a .fans .now) (a .links .now) in
     let e = count-fits _ _ _ (c₃ .count-points .ensures) (c₂ .if2 .left) in
-    routes-as (followed T (a .s) (a .t) (found (a .path .now) (a .cost))) _ _ (a .chain .now) _ (a .stops .now) _
-    (route-fits T (a .path .now) (a .cost) (a .s) (a .t) (length (a .chain .now)) (length (a .stops .now)) (c₄ .if1 .left)
+    routes-as (followed T (a .s) (a .t) (found (a .path .now) (a .cost))) _ _ (a .chain .now) _ (a .waypoints .now) _
+    (route-fits T (a .path .now) (a .cost) (a .s) (a .t) (length (a .chain .now)) (length (a .waypoints .now)) (c₄ .if1 .left)
     (omega (arith, e, c₂ .if2 .left)))
     (record {
       answer-is = route-answer T (a .path .now) (a .cost) (a .s) (a .t) (c₃ .count-points .result) e;
       chain-is = c₁ .write-chain
           .ensures;
-      stops-is = c .before .before .write-points .ensures;
+      waypoints-is = c .before .before .write-points .ensures;
     })
 
 pub follow-spec : {M : Type 1} → statement M

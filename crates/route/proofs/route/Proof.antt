@@ -44,7 +44,7 @@ returns c =
     let T = routeTables (a .lanes .now) (a .points .now) (a .cumulative .now) (a .fans .now) (a .links .now) in
     let r = c₂ .nearest-rows in
     let ls = lanesFrom (a .lanes .now) (a .points .now) (a .n) 0 in
-    routes-as _ _ _ (a .chain .now) _ (a .stops .now) _ (both-near T (a .n) (length (a .chain .now)) (length (a .stops .now)) ls (a .from)
+    routes-as _ _ _ (a .chain .now) _ (a .waypoints .now) _ (both-near T (a .n) (length (a .chain .now)) (length (a .waypoints .now)) ls (a .from)
     (a .to) (c₄ .both-finite .result) (c₄ .both-finite .ensures) (r .result .from) (r .result .to) (c₃ .if1 .taken)
     (from-is (a .lanes .now) (a .points .now) (a .n) (a .from) (a .to) (r .result) (r .ensures))
     (to-is (a .lanes .now) (a .points .now) (a .n) (a .from) (a .to) (r .result) (r .ensures))) (c₁ .between .ensures)
@@ -59,9 +59,9 @@ returns-2 c =
     let a = c₂ .args in
     let T = routeTables (a .lanes .now) (a .points .now) (a .cumulative .now) (a .fans .now) (a .links .now) in
     let ls = lanesFrom (a .lanes .now) (a .points .now) (a .n) 0 in
-    routes-as (refusal 9) _ _ (a .chain .now) _ (a .stops .now) _ (not-finite T (a .n) (length (a .chain .now)) (length (a .stops .now)) ls
+    routes-as (refusal 9) _ _ (a .chain .now) _ (a .waypoints .now) _ (not-finite T (a .n) (length (a .chain .now)) (length (a .waypoints .now)) ls
     (a .from) (a .to) (c₁ .both-finite .result) (c₁ .both-finite .ensures) (c .before .if1 .left))
-    (refuses 9 _ (a .chain .now) (a .stops .now) (c .refused .ensures))
+    (refuses 9 _ (a .chain .now) (a .waypoints .now) (c .refused .ensures))
 
 pub route-spec : {M : Type 1} → statement M
 route-spec =
