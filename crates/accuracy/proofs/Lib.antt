@@ -33,5 +33,5 @@ pub mod Theorem
 -- finite points far away: an answer all the same
 pub mod Numbers
 pub mod Everywhere
--- the hypotheses can be met
+-- the hypotheses can be met, and the conclusion rules out the first span as every nearest lane
 pub mod Example
