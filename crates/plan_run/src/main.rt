@@ -52,9 +52,11 @@ fn main() {
     // one byte more than a plan file may have, so that a longer one is told by its length
     let mut file = [0u8; 65537];
     let input = read_file(&mut file);
-    if input.whole {
-        let n = input.len;
-        let mut out = [0u8; 141928];
-        run(&file[..n], &mut out);
+    if !input.whole {
+        io::write_all(2, b"plan-run: standard input cannot be read\n");
+        return;
     }
+    let n = input.len;
+    let mut out = [0u8; 141928];
+    run(&file[..n], &mut out);
 }
