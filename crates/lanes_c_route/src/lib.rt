@@ -1,8 +1,9 @@
-// The public call `route` for C or Rust to link, with its contract. c/build makes one library of it and the other four.
+// The public call `route` for C or Rust to link, with its contract, demand 3 included. c/build makes one library of it and the other four.
 ghost use Rattle.plan_format.specs.Plan.{Decoded};
 ghost use Rattle.tables.specs.LaneTables.{Calls, laneTables};
 ghost use Rattle.calling.specs.Calling.{point};
 ghost use Rattle.lanes_route.specs.Route.{listsOf, routeOf};
+ghost use Rattle.lanes_promise.specs.Promise.{Demand3};
 use route::RouteAnswer;
 
 #[no_mangle]
@@ -28,7 +29,7 @@ pub extern "C" fn kartsodi_route(
     chain: &mut [usize],
     waypoints: &mut [f32],
 ) -> RouteAnswer
-    ensures { λ r. ⌜ Calls
+    ensures calls { λ r. ⌜ Calls
         (λ (d : Decoded). routeOf d (point x y z) (point u v w) (now (chain .entry)) (now (waypoints .entry))) 0 (now (file .entry))
         (listsOf r (now (chain .exit)) (now (waypoints .exit)))
         (laneTables (now (lanes .entry)) (now (points .entry)) (now (ends .entry)) (now (fans .entry)) (now (links .entry))
@@ -37,8 +38,13 @@ pub extern "C" fn kartsodi_route(
         (laneTables (now (lanes .exit)) (now (points .exit)) (now (ends .exit)) (now (fans .exit)) (now (links .exit))
         (now (sections .exit)) (now (bounds .exit)) (now (stations .exit)) (now (places .exit)) (now (cumulative .exit))
         (now (tangents .exit))) ⌝ }
+    ensures promise { λ r. ⌜ Demand3 (now (file .entry))
+        (laneTables (now (lanes .entry)) (now (points .entry)) (now (ends .entry)) (now (fans .entry)) (now (links .entry))
+        (now (sections .entry)) (now (bounds .entry)) (now (stations .entry)) (now (places .entry)) (now (cumulative .entry))
+        (now (tangents .entry)))
+        (point x y z) (point u v w) (now (chain .entry)) (now (waypoints .entry)) r (now (chain .exit)) (now (waypoints .exit)) ⌝ }
 {
-    lanes_route::route(
+    lanes_promise::route(
         file,
         x,
         y,

@@ -49,7 +49,7 @@ same-length-2 c = search needs
 returns : tie.Need-returns
 returns c =
     from-lent
-    (c .before .before .before .before .before .before .before .before .before .before .before .before .before .before .before .route .ensures)
+    (c .before .before .before .before .before .before .before .before .before .before .before .before .before .before .before .route .ensures .0)
 
 pub ask-route-spec : {M : Type 1} → statement M
 ask-route-spec =
