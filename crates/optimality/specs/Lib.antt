@@ -1,25 +1,5 @@
--- The chain of the search is a cheapest one. In the order of the modules:
--- * What the search asks of costs, and that f32 costs meet it (Laws).
--- * What a turn of the search does, and what holds between turns (Relaxing, Least, Invariant).
--- * What it finds is a cheapest walk along its links, and it refuses only where there is none (Walks, Correct).
--- * The heap form of route.rs (Heap) pops by `Ord for State` (HeapOrder) and rebuilds its chain (HeapChain). Its maps and its heap agree
---   with the search's state on each lane that is there (HeapMatch); it ends, and answers the same (HeapSame).
--- * The reader's chains of document 01 (Chains), and the theorem: over the tables of an accepted plan the answer is a chain of
---   link records, no other chain costs less, and it is refused exactly where there is none (Rows, Optimality, Plans).
--- * The cases of document 01 on chains (Cases).
-pub mod Laws
-pub mod Relaxing
-pub mod Least
-pub mod Invariant
-pub mod Walks
-pub mod Correct
-pub mod Heap
-pub mod HeapOrder
-pub mod HeapChain
-pub mod HeapMatch
-pub mod HeapSame
+-- What a cheapest chain is, and what is proved of the search: the reader's chains of document 01 and what they cost (Chains), the search as
+-- route.rs has it, with maps and a heap (Heap), and the two theorems over accepted plans (Plans). Definitions only; proofs/ has the proofs.
 pub mod Chains
-pub mod Rows
-pub mod Optimality
+pub mod Heap
 pub mod Plans
-pub mod Cases

@@ -8,7 +8,7 @@ use native.Mathlib.Omega.{arith}
 use lib.Dec.{eqb}
 use lib.ListN.{getD, length, length-map}
 use Rattle.optimality.specs.Chains.{hasLink, numbersOf}
-use Rattle.optimality.specs.Plans.{chains-ok, tabled}
+use Rattle.optimality.proofs.Theorem.{chains-ok, tabled}
 use Rattle.plan.specs.Accepted.{Accepted}
 use Rattle.plan_format.specs.Lookup.{index-same}
 use Rattle.plan_format.specs.Plan.{Plan, any, holds, indexOf, numberOf}

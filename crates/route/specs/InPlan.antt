@@ -12,7 +12,7 @@ use Rattle.nearest.specs.PlanLanes.{lanes-are, searchable}
 use Rattle.network.specs.Lanes.{Lane}
 use Rattle.network.specs.Tables.{lanesFrom}
 use Rattle.optimality.specs.Chains.{lengthOf, lengthsOf}
-use Rattle.optimality.specs.Plans.{readable}
+use Rattle.optimality.proofs.Theorem.{readable}
 use Rattle.plan.specs.Accepted.{Accepted}
 use Rattle.plan_format.specs.Plan.{Plan}
 use Rattle.plan_format.specs.Tables.{planRows}

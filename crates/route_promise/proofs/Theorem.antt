@@ -22,7 +22,8 @@ use Rattle.network.specs.Lanes.{Lane, drivesTable}
 use Rattle.network.specs.Nearest.{Best, found, nearestLane}
 use Rattle.network.specs.Tables.{told}
 use Rattle.optimality.specs.Chains.{chainCostIn, numbersOf}
-use Rattle.optimality.specs.Plans.{OptimalFrom, graphIn, search-optimal}
+use Rattle.optimality.proofs.Theorem.{search-optimal}
+use Rattle.optimality.specs.Plans.{OptimalFrom, graphIn}
 use Rattle.plan.specs.Accepted.{Accepted, accepted-plan}
 use Rattle.plan_format.specs.Laws.{and-both, and-fst, and-snd, getD-map-in}
 use Rattle.plan_format.specs.Lookup.{index-own, index-same}

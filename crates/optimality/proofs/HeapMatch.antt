@@ -15,10 +15,10 @@ use lib.Seq.{getD-set-other, getD-set-same}
 use borrow.Author.Tests.{eq-eqb, ltb-false, ltb-true, ne-eqb}
 use Rattle.search.specs.Search.{Costs, Edge, State, distOf, expanded, relaxed}
 use Rattle.optimality.specs.Heap.{Entry, Frontier, Map, Taken, distAt, first, front, insert, later, push, pushAll}
-use Rattle.optimality.specs.HeapOrder.{taken-in}
-use Rattle.optimality.specs.Laws.{Laws}
-use Rattle.optimality.specs.Least.{Open}
-use Rattle.optimality.specs.Relaxing.{AllCosts, Expanded, LinkCosts, distances-fall, limit, prevOf, relaxed-is, sizeAt}
+use Rattle.optimality.proofs.HeapOrder.{taken-in}
+use Rattle.optimality.proofs.Laws.{Laws}
+use Rattle.optimality.proofs.Least.{Open}
+use Rattle.optimality.proofs.Relaxing.{AllCosts, Expanded, LinkCosts, distances-fall, limit, prevOf, relaxed-is, sizeAt}
 
 -- ---- numbers and rows
 -- each of the n rows has a number of its own; a number of none of them has no row below n: its lane is missing

@@ -23,16 +23,16 @@ use Rattle.rows.specs.Rows as rows
 use Rattle.search.specs.LaneGraph.{LaneGraph, edges, f32Costs, laneChange, lengthOf, out, searchedIn}
 use Rattle.search.specs.Search.{Edge, Result, found, refused}
 use Rattle.optimality.specs.Chains.{Optimal, addSteps, chainCost, hasLink, isChain, isStep, laneLength, leadsTo, stepCost}
-use Rattle.optimality.specs.Correct.{search-correct}
+use Rattle.optimality.proofs.Correct.{search-correct}
 use Rattle.optimality.specs.Heap.{Gives, begun, compareEntries, edgesFrom, numbered, toward}
-use Rattle.optimality.specs.HeapMatch.{Numbering, Restricts, kept}
-use Rattle.optimality.specs.HeapOrder.{entries-ordered}
-use Rattle.optimality.specs.HeapSame.{heap-gives}
-use Rattle.optimality.specs.Invariant.{Linking}
-use Rattle.optimality.specs.Laws.{f32-laws}
-use Rattle.optimality.specs.Rows.{ChainsOk, Tabled, cheapest-steps, edges-are, numberAt, or-right, row, row-below, row-link}
-use Rattle.optimality.specs.Rows.{row-number, rowLink, steps-are, steps-linked, stepsTo}
-use Rattle.optimality.specs.Walks.{Correct, IsWalk, Linked, Walk, cheapest, costFrom, walk-cost, walkCost}
+use Rattle.optimality.proofs.HeapMatch.{Numbering, Restricts, kept}
+use Rattle.optimality.proofs.HeapOrder.{entries-ordered}
+use Rattle.optimality.proofs.HeapSame.{heap-gives}
+use Rattle.optimality.proofs.Invariant.{Linking}
+use Rattle.optimality.proofs.Laws.{f32-laws}
+use Rattle.optimality.proofs.Rows.{ChainsOk, Tabled, cheapest-steps, edges-are, numberAt, or-right, row, row-below, row-link}
+use Rattle.optimality.proofs.Rows.{row-number, rowLink, steps-are, steps-linked, stepsTo}
+use Rattle.optimality.proofs.Walks.{Correct, IsWalk, Linked, Walk, cheapest, costFrom, walk-cost, walkCost}
 
 -- ---- costs
 change-cost : LinkCost laneChange

@@ -22,14 +22,14 @@ use Rattle.search.specs.Search.{Costs, Edge, Result, State, blank, distOf, expa
 use Rattle.search.specs.Search.{searched, settled}
 use Rattle.optimality.specs.Heap.{Ends, Entry, Frontier, Gives, Pops, Rebuilds, Runs, begun, distAt, empty, ends, expandedFrom}
 use Rattle.optimality.specs.Heap.{fresh, front, isStale, numbered, pushAll, reached, skipped, stale}
-use Rattle.optimality.specs.HeapChain.{goal-back, rebuilds-one}
-use Rattle.optimality.specs.HeapMatch.{ClosedLow, Current, Listed, Matches, Numbering, Restricts, apart-taken, distinct, entry, kept}
-use Rattle.optimality.specs.HeapMatch.{push-all, rest-in, rest-shorter, taken-cases}
-use Rattle.optimality.specs.HeapOrder.{NotBefore, Ordered, Popped, heap-pops, taken-in}
-use Rattle.optimality.specs.Invariant.{Invariant, Linking, first-invariant, open-unmarked, turn-invariant, zeros, zeros-set}
-use Rattle.optimality.specs.Laws.{Laws}
-use Rattle.optimality.specs.Least.{IsLeast, Open, least-is}
-use Rattle.optimality.specs.Relaxing.{limit, settled-marks, sizeAt}
+use Rattle.optimality.proofs.HeapChain.{goal-back, rebuilds-one}
+use Rattle.optimality.proofs.HeapMatch.{ClosedLow, Current, Listed, Matches, Numbering, Restricts, apart-taken, distinct, entry, kept}
+use Rattle.optimality.proofs.HeapMatch.{push-all, rest-in, rest-shorter, taken-cases}
+use Rattle.optimality.proofs.HeapOrder.{NotBefore, Ordered, Popped, heap-pops, taken-in}
+use Rattle.optimality.proofs.Invariant.{Invariant, Linking, first-invariant, open-unmarked, turn-invariant, zeros, zeros-set}
+use Rattle.optimality.proofs.Laws.{Laws}
+use Rattle.optimality.proofs.Least.{IsLeast, Open, least-is}
+use Rattle.optimality.proofs.Relaxing.{limit, settled-marks, sizeAt}
 
 module _ {C : Type 0} (K : Costs C) (L : Laws K) (num rowOf : ℕ → ℕ) (edges out : ℕ → List (Edge C)) (size n start goal : ℕ)
     (few : n ≤ size) (in-start : start < n) (in-goal : goal < n)

@@ -10,10 +10,10 @@ use lib.ListN.{getD, getD-replicate, length, length-replicate, replicate, set}
 use lib.Seq.{getD-set-other}
 use Rattle.search.specs.Loops.{replicate-all}
 use Rattle.search.specs.Search.{Costs, Edge, State, blank, distOf, expanded, marked, settled}
-use Rattle.optimality.specs.Laws.{Laws}
-use Rattle.optimality.specs.Least.{Open}
-use Rattle.optimality.specs.Relaxing.{AllCosts, Each, Expanded, Kept, Lowered, distances-fall, expanded-is, limit, prevOf, sizeAt}
-use Rattle.optimality.specs.Relaxing.{sizeVia}
+use Rattle.optimality.proofs.Laws.{Laws}
+use Rattle.optimality.proofs.Least.{Open}
+use Rattle.optimality.proofs.Relaxing.{AllCosts, Each, Expanded, Kept, Lowered, distances-fall, expanded-is, limit, prevOf, sizeAt}
+use Rattle.optimality.proofs.Relaxing.{sizeVia}
 
 -- ---- marks
 -- how many are 0

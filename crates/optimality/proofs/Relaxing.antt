@@ -11,7 +11,7 @@ use lib.ListN.{getD, length, length-set, set}
 use lib.Seq.{getD-set-other, getD-set-same}
 use borrow.Author.Tests.{ltb-false, ltb-true}
 use Rattle.search.specs.Search.{Costs, Edge, State, distOf, expanded, marked, relaxed, settled}
-use Rattle.optimality.specs.Laws.{Laws}
+use Rattle.optimality.proofs.Laws.{Laws}
 
 abbrev pub prevOf : {C : Type 0} → State C → ℕ → ℕ
 prevOf s v = getD (s .prev) v 0

@@ -21,7 +21,7 @@ use Rattle.float_laws.specs.Compare.{neither-less}
 use Rattle.search.specs.LaneGraph.{f32Costs}
 use Rattle.search.specs.Search.{Costs}
 use Rattle.optimality.specs.Heap.{Entry, Pops, Taken, compareEntries, compareNumbers, first, later, thenWith}
-use Rattle.optimality.specs.Laws.{Laws, f32-laws}
+use Rattle.optimality.proofs.Laws.{Laws, f32-laws}
 
 pub taken-in : {C : Type 0} {e : Entry C} {xs ys : List (Entry C)} → Taken e xs ys → List·Memᴰ e xs
 taken-in first = List·Memᴰ·head refl

@@ -9,8 +9,8 @@ use lib.Dec.{eqb, ltb}
 use lib.ListN.{getD}
 use borrow.Author.Tests.{eqb-false, eqb-true, ltb-false, ltb-true}
 use Rattle.search.specs.Search.{Costs, State, distOf, leastOpen}
-use Rattle.optimality.specs.Laws.{Laws}
-use Rattle.optimality.specs.Relaxing.{AllCosts, limit, sizeAt}
+use Rattle.optimality.proofs.Laws.{Laws}
+use Rattle.optimality.proofs.Relaxing.{AllCosts, limit, sizeAt}
 
 -- lane v is not closed
 abbrev pub Open : {C : Type 0} → State C → ℕ → Type 0

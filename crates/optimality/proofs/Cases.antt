@@ -1,10 +1,11 @@
 -- The cases of document 01 on chains: what the search finds over the tables, and what the chains of the link records cost.
-use mathlib.Core.Bool.{Bool, false, not, true, true≢false, _&&_}
+use mathlib.Core.Bool.{Bool, cond, false, not, true, true≢false, _&&_}
 use mathlib.Core.List.{List, List·Memᴰ, List·Memᴰ·cases-cons, List·Memᴰ·not-nil, [], _∷_}
 use mathlib.Core.Logic.{inl, inr, _⊎_, _≢_}
 use mathlib.Core.Path.{refl, subst, sym, _≡_}
 use Prim.Native.Nat.{ℕ}
 use lib.Count.{trailingZeros}
+use lib.Dec.{eqb}
 use lib.IntN.{pos}
 use lib.Ieee.{Float, add, eq, fin, isNan, lt, odd, ofBits, round, size, sum, units}
 use borrow.Author.Tests.{eqb-false}
@@ -19,7 +20,7 @@ use Rattle.search.specs.Search.{Edge, Result, blank, expanded, found, leastOpen
 use Rattle.optimality.specs.Chains.{addSteps, chainCost, changeCost, hasLink, isChain, leadsTo, stepCost}
 use Rattle.optimality.specs.Heap.{Entry, Frontier, Pops, Runs, Taken, back, begun, compareEntries, edgesFrom, first, fresh, further}
 use Rattle.optimality.specs.Heap.{later, numbered, push, pushAll, reached}
-use Rattle.optimality.specs.HeapOrder.{isGreater, not-greater}
+use Rattle.optimality.proofs.HeapOrder.{isGreater, not-greater}
 
 -- 8, 16, 30 and 32 m
 abbrev m8 : Float
@@ -150,6 +151,14 @@ chains : (isChain fourLinks 1 4 (1 ∷ 3 ∷ 4 ∷ []) ≡ true) × (isChain (li
     × (isChain [] 1 1 (1 ∷ 1 ∷ []) ≡ false) × (isChain (link 1 0 1 ∷ []) 1 1 (1 ∷ []) ≡ false)
 unfolding isChain leadsTo hasLink
 chains = (refl, refl, refl, refl)
+
+-- a search that opens only the start lane finds none there, and the chain that it could then invent is none of link records
+only-the-start :
+    (searched f32Costs (laneNumber fourLanes) (λ (u : ℕ). cond (eqb u 0) (out fourGraph u) []) 256 4 0 3 ≡ refused)
+    × (isChain fourLinks 1 4 (1 ∷ 4 ∷ []) ≡ false)
+unfolding searched run settled expanded relaxed leastOpen marked rebuild blank edges out isChain leadsTo hasLink ofBits lt add sum round size units
+    odd trailingZeros
+only-the-start = (refl, refl)
 
 costs : (chainCost (1 ∷ 2 ∷ 3 ∷ 4 ∷ []) (m8 ∷ m8 ∷ m8 ∷ m8 ∷ []) fourLinks (1 ∷ 3 ∷ 4 ∷ []) ≡ m16)
     × (chainCost (1 ∷ 2 ∷ []) (m32 ∷ m8 ∷ []) (link 1 0 2 ∷ link 1 2 2 ∷ []) (1 ∷ 2 ∷ []) ≡ m30)

@@ -10,9 +10,9 @@ use lib.Dec.{eqb}
 use lib.ListN.{length}
 use borrow.Author.Tests.{eqb-false, eqb-true, ltb-false, ltb-true}
 use Rattle.search.specs.Search.{Costs, Edge, Result, found, refused}
-use Rattle.optimality.specs.Invariant.{Linking}
-use Rattle.optimality.specs.Laws.{Laws}
-use Rattle.optimality.specs.Relaxing.{LinkCosts, limit}
+use Rattle.optimality.proofs.Invariant.{Linking}
+use Rattle.optimality.proofs.Laws.{Laws}
+use Rattle.optimality.proofs.Relaxing.{LinkCosts, limit}
 
 -- one of the links es leads to v
 pub record Linked {C : Type 0} (es : List (Edge C)) (v : ℕ) : Type 0 where

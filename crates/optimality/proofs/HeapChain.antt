@@ -12,10 +12,10 @@ use lib.ListN.{length}
 use borrow.Author.Tests.{eq-eqb, eqb-false, eqb-true}
 use Rattle.search.specs.Search.{Costs, Edge, State, rebuild}
 use Rattle.optimality.specs.Heap.{Frontier, Rebuilds, back, further}
-use Rattle.optimality.specs.Invariant.{From, Invariant, Ranked, origin-from, zeros-set}
-use Rattle.optimality.specs.Laws.{Laws}
-use Rattle.optimality.specs.Least.{Open}
-use Rattle.optimality.specs.Relaxing.{limit, prevOf, sizeAt}
+use Rattle.optimality.proofs.Invariant.{From, Invariant, Ranked, origin-from, zeros-set}
+use Rattle.optimality.proofs.Laws.{Laws}
+use Rattle.optimality.proofs.Least.{Open}
+use Rattle.optimality.proofs.Relaxing.{limit, prevOf, sizeAt}
 
 -- there is one chain at most
 pub rebuilds-one : {C : Type 0} {f : Frontier C} {start cur : ℕ} {chain l m : List ℕ} → Rebuilds f start cur chain l

@@ -18,7 +18,7 @@ use Rattle.rows.specs.Rows.{firstLink, firstNeighbour, laneNumber, leadsTo, nei
 use Rattle.search.specs.LaneGraph.{LaneGraph, edges, f32Costs, lengthOf}
 use Rattle.search.specs.Search.{Edge}
 use Rattle.optimality.specs.Chains.{hasLink}
-use Rattle.optimality.specs.Walks.{Linked, cheapest}
+use Rattle.optimality.proofs.Walks.{Linked, cheapest}
 
 -- ---- what is known of an accepted plan: no lane's number stands twice, each link leaves a lane, and each length is the cost of a link
 pub record ChainsOk (numbers : List ℕ) (lengths : List Float) (links : List Link) : Type 0 where

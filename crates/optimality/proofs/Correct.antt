@@ -10,13 +10,13 @@ use lib.Dec.{eqb}
 use lib.ListN.{List·getD-eq-default, length}
 use borrow.Author.Tests.{eq-eqb, eqb-false, eqb-true}
 use Rattle.search.specs.Search.{Costs, Edge, Result, State, distOf, found, leastOpen, rebuild, refused, run, searched, settled}
-use Rattle.optimality.specs.Invariant.{ByClosed, ByStart, From, Invariant, Linking, Origin, Ranked, first-invariant, origin-from}
-use Rattle.optimality.specs.Invariant.{turn-invariant, zeros, zeros-set}
-use Rattle.optimality.specs.Laws.{Laws}
-use Rattle.optimality.specs.Least.{IsLeast, Open, least-is}
-use Rattle.optimality.specs.Relaxing.{Each, limit, prevOf, settled-marks, sizeAt, sizeVia}
-use Rattle.optimality.specs.Walks.{Best, Correct, IsWalk, Linked, Walk, cheapest, cheapest-least, cost-grows, costFrom}
-use Rattle.optimality.specs.Walks.{linked-cheapest, linked-inside, step-cost, step-link, walk-finite, walkCost}
+use Rattle.optimality.proofs.Invariant.{ByClosed, ByStart, From, Invariant, Linking, Origin, Ranked, first-invariant, origin-from}
+use Rattle.optimality.proofs.Invariant.{turn-invariant, zeros, zeros-set}
+use Rattle.optimality.proofs.Laws.{Laws}
+use Rattle.optimality.proofs.Least.{IsLeast, Open, least-is}
+use Rattle.optimality.proofs.Relaxing.{Each, limit, prevOf, settled-marks, sizeAt, sizeVia}
+use Rattle.optimality.proofs.Walks.{Best, Correct, IsWalk, Linked, Walk, cheapest, cheapest-least, cost-grows, costFrom}
+use Rattle.optimality.proofs.Walks.{linked-cheapest, linked-inside, step-cost, step-link, walk-finite, walkCost}
 
 module _ {C : Type 0} (K : Costs C) (L : Laws K) (out : ℕ → List (Edge C)) (size n start goal : ℕ) (few : n ≤ size) (in-start : start < n)
     (G : Linking K L out n) where
