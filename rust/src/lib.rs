@@ -100,12 +100,12 @@ pub struct Nearest {
     pub projection: Projection,
 }
 
-/// A cheapest chain of lanes, and points along it.
+/// A chain of lanes, and points along it: the one lane where the goal lies ahead on it, else a cheapest chain of links.
 #[derive(Debug, Clone, PartialEq)]
 pub struct Route {
     /// The lanes, first to last.
     pub chain: Vec<LaneId>,
-    /// The points, at most 2 m of s apart on one lane.
+    /// The points, at most 2 m of s apart on one lane, up to f32 rounding of s.
     pub points: Vec<Point>,
     /// The cost of the chain: the length of each lane left for a successor, 30 for a change to a neighbour; 0 for one lane.
     pub length: f32,
@@ -130,7 +130,7 @@ pub enum Advance {
 pub struct Moved {
     /// How many branch keys were entered, at most 1,024.
     pub keys: usize,
-    /// A case for each branch.
+    /// A case for each branch that ended on a lane with a place; there may be none.
     pub positions: Vec<Advance>,
 }
 

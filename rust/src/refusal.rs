@@ -26,7 +26,7 @@ pub enum Refusal {
     NotAPoint = 9,
     /// 10: no lane of the plan drives.
     NoneDrives = 10,
-    /// 11: no chain of successors and neighbours leads to the goal.
+    /// 11: the goal does not lie ahead on the same lane, and no chain of successors and neighbours leads to it.
     NoWay = 11,
     /// 12: the lane is unknown or has no place, or s is not within its section.
     NotOnALane = 12,

@@ -81,7 +81,7 @@ fn bench(rounds: usize) {
     }
 }
 
-/// The Rust's side: answers the plan on standard input by the source's functions, each query once.
+/// The Rust's side: answers the plan on standard input by the source's functions, each query once (the oracle's copies where it has one).
 fn rust() {
     let mut file = Vec::new();
     std::io::stdin().read_to_end(&mut file).expect("standard input can be read");

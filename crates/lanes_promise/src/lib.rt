@@ -7,7 +7,8 @@ ghost use Rattle.lanes_promise.specs.Promise.{Demand3};
 use route::RouteAnswer;
 
 // The route from the point (x, y, z) to the point (u, v, w): the numbers of its lanes in `chain`, x y z of its points in `waypoints`.
-// Numbers 1 to 8, 9 where a coordinate is not finite, 10 where no lane drives, 11 where no chain leads to the goal, and 14.
+// Numbers 1 to 8, 9 where a coordinate is not finite, 10 where no lane drives, 11 where the goal does not lie ahead on the same lane and no
+// chain leads to it, 14 where the lists do not hold the answer.
 pub fn route(
     file: &[u8],
     x: f32,

@@ -1,6 +1,6 @@
 -- The nearest lane of an accepted plan. For every finite point: number 10 exactly when no lane drives, and where one does, 0 and a lane that
 -- drives. For one with coordinates from -4,096 to 4,096 document 01's taped distance holds of the answer.
--- Definitions only; proofs/Theorem.antt proves `NearestNumbers` and `NearestTaped`.
+-- Definitions only; proofs/Theorem.antt proves `NearestNumbers`, `NearestTaped` and both of a file, `NearestOfFile`.
 use mathlib.Core.Bool.{false, true}
 use mathlib.Core.List.{List}
 use mathlib.Core.Path.{_≡_}

@@ -1,4 +1,5 @@
--- The cases of document 01 on chains: what the search finds over the tables, and what the chains of the link records cost.
+-- Worked cases, document 01's on chains among them: what the search finds over the tables, runs of the heap form, what chains of link records cost,
+-- and a search that opens only the start lane.
 use mathlib.Core.Bool.{Bool, cond, false, not, true, true≢false, _&&_}
 use mathlib.Core.List.{List, List·Memᴰ, List·Memᴰ·cases-cons, List·Memᴰ·not-nil, [], _∷_}
 use mathlib.Core.Logic.{inl, inr, _⊎_, _≢_}

@@ -142,7 +142,7 @@ module _ {C : Type 0} (K : Costs C) (L : Laws K) (out : ℕ → List (Edge C)) (
           x .1,
         )
 
-    -- back from v, whose predecessor is the start or one of us, with k steps of fuel
+    -- back from v, whose predecessor is the start or one of the lanes `us`, with k steps of fuel
     abbrev Backward : List ℕ → ℕ → List ℕ → ℕ → Type 0
     Backward us v vs k = Back (length us + suc (suc (length vs))) (cost-from (distOf K s v) v vs) (rebuild k (s .prev) start v (v ∷ vs))
 

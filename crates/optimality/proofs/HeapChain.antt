@@ -49,7 +49,7 @@ module _ {C : Type 0} (K : Costs C) (L : Laws K) (num : ℕ → ℕ) (out : ℕ 
   step v chain k l lp false t more =
       rw t (further (prev v (l .0) (l .1)) (λ e. eqb-false _ _ t (distinct (prevOf s v) start lp in-start e)) (more refl))
 
-  -- back from v, whose predecessor is the start or one of us, which were closed one after the other
+  -- back from v, whose predecessor is the start or one of the lanes `us`, which were closed one after the other
   all-back : (us : List ℕ) → Ranked (s .prev) start us → ((x : ℕ) → List·Memᴰ x us → Reached x) → (v : ℕ) (chain : List ℕ) (k : ℕ)
       → length us < k → Reached v → From (s .prev) start us v → Rebuilt v chain (rebuild k (s .prev) start v chain)
   all-back us r far v chain zero lk l from = absurd (not-suc-le-zero lk)

@@ -370,7 +370,8 @@ module _ {C : Type 0} (K : Costs C) (L : Laws K) (num rowOf : ℕ → ℕ) (edge
   -- from fewer open lanes, or from as many and a shorter heap
   one-turn : (k j : ℕ) → ((k′ j′ : ℕ) → k ≡ suc k′ → AllEnd k′ j′) → ((j′ : ℕ) → j ≡ suc j′ → AllEnd k j′) → AllEnd k j
   one-turn k j closing shorter s f order I M h g =
-      ends (λ e rest P ne t. less e rest P (skips s f order I M e rest P t))
+      ends (λ e rest P g. (_, popped-back s f order I M e rest P (goal-there s f order I M e rest P g) (goal-row s f order I M e rest P g)))
+      (λ e rest P ne t. less e rest P (skips s f order I M e rest P t))
       (λ e rest P ne t. ⊎-elim (λ x. subst EndsFrom (sym (x .is)) (less e rest P (x .matches))) (λ c. lower e rest P c)
       (expands s f order I M e rest P ne t))
     where
@@ -459,7 +460,7 @@ module _ {C : Type 0} (K : Costs C) (L : Laws K) (num rowOf : ℕ → ℕ) (edge
             go (no ne) false t = let S = onward ne t in record { result = S .result; runs = fresh P ne t (S .runs) }
 
   some-run : {f : Frontier C} → EndsFrom f → Onward f
-  some-run {f} (ends skip more) =
+  some-run {f} (ends back skip more) =
       one-more f (λ e rest P ne t. some-run (skip e rest P ne t)) (λ e rest P ne t. some-run (more e rest P ne t))
 
   -- ---- as `lane_path` begins

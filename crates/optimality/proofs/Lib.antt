@@ -6,7 +6,7 @@
 --   on each lane that is there (HeapMatch); it ends, and answers the same (HeapSame).
 -- * Over tables that hold lanes and link records the answer is a chain of link records, no other chain costs less, and it is refused exactly
 --   where there is none (Rows, Optimality); the tables of an accepted plan are such (Theorem).
--- * The cases of document 01 on chains (Cases).
+-- * Worked cases (Cases).
 pub mod Laws
 pub mod Relaxing
 pub mod Least

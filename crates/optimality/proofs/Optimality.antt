@@ -1,4 +1,5 @@
--- What the search finds over tables that hold a plan's lanes and links is optimal among all chains of link records.
+-- What the search finds over tables that hold a plan's lanes and links is optimal among all chains of link records (`optimal`), and what the
+-- heap form gives over these records (`heap-chain`).
 use mathlib.Core.Bool.{Bool, cond, false, true, true≢false, _&&_, _||_}
 use mathlib.Core.List.{List, List·Memᴰ, List·Memᴰ·append-cases, Memᴰ·append-left, Memᴰ·append-right, Memᴰ·of-map, append-nil, map, []}
 use mathlib.Core.List.{_++_, _∷_}

@@ -1,6 +1,6 @@
 -- The search as route.rs has it: maps for distances and predecessors, and a heap of entries, in which those that are stale stay until they
 -- are popped. A lane is its number, a `LaneId`. A link may lead to a lane that is missing from the plan: it is relaxed and pushed as any
--- other, its entry is popped, and `expand` finds no lane for it. That this has no effect (document 03, point 28) is proved in HeapSame.
+-- other, its entry is popped, and `expand` finds no lane for it. That this has no effect (document 03, point 28) is proved in proofs/HeapSame.antt.
 use mathlib.Core.Bool.{Bool, cond, false, true}
 use mathlib.Core.List.{List, List·Memᴰ, [], map, _++_, _∷_}
 use mathlib.Core.Logic.{_≢_}
@@ -124,9 +124,11 @@ module _ {C : Type 0} (K : Costs C) where
       fresh : {f : Frontier C} {e : Entry C} {rest : List (Entry C)} {r : Result C} → Pops cmp (f .heap) e rest → e .lane ≢ goal
           → isStale f e ≡ false → Runs (expandedFrom f e rest) r → Runs f r
 
-    -- the loop ends, whichever of several greatest entries is popped
+    -- the loop ends, whichever of several greatest entries is popped, and where that is the goal's, `reconstruct` finds each predecessor
     pub data Ends : Frontier C → Type 0 where
       ends : {f : Frontier C}
+          → ((e : Entry C) (rest : List (Entry C)) → Pops cmp (f .heap) e rest → e .lane ≡ goal
+          → (chain : List ℕ) × Rebuilds f start goal (goal ∷ []) chain)
           → ((e : Entry C) (rest : List (Entry C)) → Pops cmp (f .heap) e rest → e .lane ≢ goal → isStale f e ≡ true
           → Ends (skipped f rest))
           → ((e : Entry C) (rest : List (Entry C)) → Pops cmp (f .heap) e rest → e .lane ≢ goal → isStale f e ≡ false
