@@ -107,6 +107,10 @@ size_is y q g =
     go false w h = unfold ι sgn in omega arith
     go true w h = unfold ι sgn in omega arith
 
+negative : (w : ℕ) → ι 1 ⊑ sgn true w → ⊥
+unfolding ι sgn
+negative w h = omega arith
+
 pub div_frac : (x y : Float) → F32 x → F32 y → ι 1 ⊑ val y → Frac (div binary32 x y) (size_of y) (ι U ⊠ val x)
 div_frac x y p q g =
     let a = units_of_law x p in
@@ -132,9 +136,6 @@ div_frac x y p q g =
 
     turn : (a b u : ℕ) → a * u * u * b ≡ u * a * (b * u)
     turn a b u = omega arith
-
-    negative : (w : ℕ) → ι 1 ⊑ sgn true w → ⊥
-    negative w h = unfold ι sgn in omega arith
 
     signed : (s t : Bool) (a b : ℕ) → ι 1 ⊑ sgn t b → ι U ⊠ sgn s a ≈ sgn (unlike s t) (U * a)
     signed false false a b h = ι_sgn U false a

@@ -1,0 +1,10 @@
+-- By the inequality of the two means.
+use Rattle.std.proofs.Common.{div-le_self, arith, rules}
+use Rattle.float.proofs.Squares.{newton_above}
+use Rattle.float.proofs.root.newton.Goals as goal
+
+pub overflow_add-result : goal.overflow_add-result
+overflow_add-result c = omega (arith, div-le_self c.args.n c.args.g)
+
+pub returns : goal.returns
+returns c = record { above = newton_above c.args.n c.args.g c.requires.fact_1; least = omega arith; most = omega arith }
