@@ -1,5 +1,7 @@
 // advance.rs, `advance`: every place a distance on from a lane position along the lanes, one for each branch. The plan stands in flat tables;
 // `specs/Tables.antt` of `branches` says what a row has. `specs/Advance.antt` says what is answered.
+#![tactic(auto)]
+
 ghost use Rattle.std.specs.Prelude.{◌≡◌, ◌+◌, ◌*◌, ◌<◌, ◌≤◌, length};
 ghost use Rattle.geometry.specs.Over.{over};
 ghost use Rattle.road.specs.Along.{Stationed, along_of};

@@ -1,5 +1,7 @@
 // advance.rs, `left_of` and `right_of`: the lane beside a lane position, by ASAM OpenDRIVE's order of a section's lanes. The plan stands in flat
 // tables with rows of fixed width: `lanes` (6 a row), `fans` (5), `places` (3) and `bounds` (2). `specs/` says what each function answers.
+#![tactic(auto)]
+
 ghost use Rattle.std.specs.Prelude.{◌≡◌, ◌+◌, ◌*◌, ◌<◌, ◌≤◌, length};
 ghost use Rattle.beside.specs.Seated.{Seated};
 ghost use Rattle.beside.specs.Beside.{beyond, toward_larger, nearer_at, next_row, in_section, refusal, beside_rows};

@@ -1,5 +1,7 @@
 // advance.rs: branches in flight, the keys by which they are told apart, and where they go on. `specs/Branches.antt` and `specs/Front.antt` say
 // what each function answers, `specs/Held.antt` how the arrays hold branches and keys.
+#![tactic(auto)]
+
 ghost use Rattle.std.specs.Prelude.{◌≡◌, ◌∷◌, ◌+◌, ◌*◌, ◌<◌, ◌≤◌, eqb, length};
 ghost use Rattle.std.specs.Int.{w64};
 ghost use Rattle.std.proofs.Common.{of_z};

@@ -1,1 +1,2 @@
 // What the public calls have in common. Laws only: specs/ has them.
+#![tactic(auto)]

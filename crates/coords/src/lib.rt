@@ -1,5 +1,7 @@
 // coords.rs: a place (`Point`) and a displacement (`Vector`), three f32 each, in the written order of operations.
 // Rust's operators `-`, `+` and `*` are the methods `sub`, `add` and `mul`. `specs/Coords.antt` says what each answers.
+#![tactic(auto)]
+
 ghost use Rattle.std.specs.Prelude.{◌≡◌};
 ghost use Rattle.coords.specs.Coords.{sub_of, add_of, plus_of, minus_of, mul_of, dot_of, cross_of, length_squared, length_of};
 ghost use Rattle.coords.specs.Coords.{distance_to, distance_squared_to, normalize_or, zero_vector, lerp_point, lerp_vector, finite_point};

@@ -1,5 +1,7 @@
 // advance.rs: where branches end, and the places they give. `specs/Ends.antt` says what each function answers, `specs/Held.antt` how the
 // arrays hold the places.
+#![tactic(auto)]
+
 ghost use Rattle.std.specs.Prelude.{◌≡◌, ◌∷◌, ◌+◌, ◌*◌, ◌<◌, ◌≤◌, length};
 ghost use Rattle.std.specs.Float.{nan};
 ghost use Rattle.rows.specs.Rows.{place_of};

@@ -1,5 +1,7 @@
 // advance.rs, the loop of `advance`: branches are taken on along the lanes, one at a time, until none is left or the keys do not fit. The plan
 // stands in flat tables; `specs/Tables.antt` of `branches` says what they hold, `specs/Explore.antt` what each function makes of a state.
+#![tactic(auto)]
+
 ghost use Rattle.std.specs.Prelude.{◌≡◌, ◌+◌, ◌<◌, ◌≤◌};
 ghost use Rattle.branches.specs.Tables.{tables, Tabled};
 ghost use Rattle.branches.specs.Held.{Balanced, FrontRoom};

@@ -1,4 +1,6 @@
 // Little-endian fields of a slice of bytes.
+#![tactic(auto)]
+
 ghost use Rattle.std.specs.Prelude.{◌≡◌, ◌+◌, ◌≤◌, ◌<◌, length};
 ghost use Rattle.fields.specs.Fields.{u8_at, u16_at, u32_at, u64_at, f32_at, f64_at};
 

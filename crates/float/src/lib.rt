@@ -2,6 +2,8 @@
 // twin has the suffix 64. Each has an answer for every input, and its contract says which: the
 // definitions stand in specs/ or are the kit's (`lib.Ieee`), and the crate `float_laws` proves
 // what they mean.
+#![tactic(auto)]
+
 mod bits;
 mod casts;
 mod choose;

@@ -1,4 +1,6 @@
 // The functions of `float` for Rust or C to link, each with its contract.
+#![tactic(auto)]
+
 ghost use Rattle.std.specs.Prelude.{◌≡◌, pos};
 ghost use Rattle.std.specs.Float.{binary32, binary64};
 ghost use Rattle.std.specs.Float.Ieee.{is_nan, of_bits, to_bits, of_int, to_unsigned, to_signed};

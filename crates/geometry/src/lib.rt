@@ -1,5 +1,7 @@
 // geometry.rs: a lane's polyline, queried by arc length. It stands in parts of the flat tables: `points` (x y z of each),
 // `cumulative` (the arc length at each point) and `tangents` (x y z at each). `specs/` says what each function answers.
+#![tactic(auto)]
+
 ghost use Rattle.std.specs.Prelude.{◌≡◌, ◌+◌, ◌*◌, ◌-◌, ◌<◌, ◌≤◌, length};
 ghost use Rattle.geometry.specs.Polyline.{Line, point_at, vector_at, segment_length, cumulative_of, arc_length};
 ghost use Rattle.geometry.specs.Polyline.{horizontal, direction_of, outgoing_at, end_or, with_vector, tangents_of};

@@ -1,4 +1,6 @@
 // The functions of `geometry` and `road` for Rust or C to link, each with its contract. The caller keeps what a `requires` says.
+#![tactic(auto)]
+
 ghost use Rattle.std.specs.Prelude.{◌≡◌, ◌*◌, ◌≤◌, ◌<◌, length};
 ghost use Rattle.geometry.specs.Polyline.{Line, cumulative_of, tangents_of};
 ghost use Rattle.geometry.specs.Partition.{Rising};

@@ -1,5 +1,7 @@
 // The polylines of all lanes, written into the lent tables when a plan is loaded. A row of `lanes` is number, type, direction, ends, first
 // point, points; a row of `ends` is the start and the end tangent.
+#![tactic(auto)]
+
 ghost use Rattle.std.specs.Prelude.{◌≡◌, ◌+◌, ◌*◌, ◌<◌, ◌≤◌, length};
 ghost use Rattle.geometry_rows.specs.Rows.{with_cumulative, with_tangents, lane_ends};
 ghost use Rattle.geometry_rows.specs.Rows.{cumulative_rows, tangent_rows, points_before, Rows, TangentRoom};

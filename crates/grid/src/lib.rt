@@ -2,6 +2,8 @@
 // The Rust keeps a list of items for each cell. Here an item belongs to a cell exactly when its ranges of columns and rows hold it, so a grid
 // is its corner, cell size and dimensions. (The far corner of the Rust's grid is read only by `covers`, which this work leaves out.)
 // `specs/Grid.antt` and `specs/Ring.antt` say what each function answers.
+#![tactic(auto)]
+
 ghost use Rattle.std.specs.Prelude.{◌≡◌, ◌-◌, ◌<◌, ◌≤◌};
 ghost use Prim.Native.Nat as nat;
 ghost use Rattle.grid.specs.Grid.{box_at, grown, padded, merge, outside, dist2, side, first_cell, grid_of, bucket, col_of, row_of};

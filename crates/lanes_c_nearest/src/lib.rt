@@ -1,4 +1,6 @@
 // The public call `nearest_lane` for C or Rust to link, with its contract. c/build makes one library of it and the other four.
+#![tactic(auto)]
+
 ghost use Rattle.plan_format.specs.Plan.{Decoded};
 ghost use Rattle.nearest.specs.Nearest.{nearest_from};
 ghost use Rattle.tables.specs.LaneTables.{Calls, lane_tables};

@@ -1,4 +1,6 @@
 // The public call `route` for C or Rust to link, with its contract, demand 3 included. c/build makes one library of it and the other four.
+#![tactic(auto)]
+
 ghost use Rattle.plan_format.specs.Plan.{Decoded};
 ghost use Rattle.tables.specs.LaneTables.{Calls, lane_tables};
 ghost use Rattle.calling.specs.Calling.{point};

@@ -1,4 +1,6 @@
 // The public call `nearest_lane`: the driving lane nearest to a point, from the file's bytes.
+#![tactic(auto)]
+
 ghost use Rattle.std.specs.Prelude.{◌≡◌, ◌*◌, take};
 ghost use Rattle.plan_format.specs.Plan.{Decoded};
 ghost use Rattle.tables.specs.LaneTables.{Calls, lane_tables};

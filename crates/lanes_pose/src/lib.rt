@@ -1,4 +1,6 @@
 // The public call `pose`: the place and the heading on a lane of a plan, from the file's bytes.
+#![tactic(auto)]
+
 ghost use Rattle.std.specs.Prelude.{◌≡◌, ◌*◌, take};
 ghost use Rattle.plan_format.specs.Plan.{Decoded};
 ghost use Rattle.pose.specs.Lanes.{pose_of, pose_row};

@@ -1,4 +1,6 @@
 // The public call `route`, with demand 3 in its contract. All that it does is `lanes_route::route`, which stands beneath it.
+#![tactic(auto)]
+
 ghost use Rattle.plan_format.specs.Plan.{Decoded};
 ghost use Rattle.tables.specs.LaneTables.{Calls, lane_tables};
 ghost use Rattle.calling.specs.Calling.{point};

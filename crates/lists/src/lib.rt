@@ -1,1 +1,2 @@
 // Definitions and laws only: specs/ has them.
+#![tactic(auto)]

@@ -1,5 +1,7 @@
 // The nearest lane to a point, over a plan's rows: the index of the lanes that drive is built in local arrays, and asked.
 // `specs/Nearest.antt` says what is answered.
+#![tactic(auto)]
+
 ghost use Rattle.std.specs.Prelude.{◌≡◌, ◌≤◌, length};
 ghost use Rattle.network.specs.Lanes.{drives_table};
 ghost use Rattle.network.specs.Nearest.{nearest_lane};

@@ -1,1 +1,2 @@
 // What the nearest lane of an accepted plan promises. Theorems only: see specs/ and proofs/.
+#![tactic(auto)]

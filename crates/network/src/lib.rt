@@ -1,6 +1,8 @@
 // network.rs: the index over the lanes that drive, and the nearest of them. `specs/` says what is answered. The lanes stand in the flat
 // tables of the plan: `lanes` (number, type, direction, ends, first point, points), `points` (x y z of each) and `cumulative` (the arc
 // length at each point).
+#![tactic(auto)]
+
 ghost use Rattle.std.specs.Prelude.{◌≡◌, ◌+◌, ◌-◌, ◌*◌, ◌<◌, ◌≤◌, length, true, [], ◌∷◌};
 ghost use Rattle.std.proofs.lemmas.List.Edits.{sets};
 ghost use Rattle.geometry.specs.Project.{project_segments};

@@ -1,4 +1,6 @@
 // The plan of a file in the lent tables: `check` reads only, `load` writes, `read_plan` does both for every input.
+#![tactic(auto)]
+
 ghost use Rattle.std.specs.Prelude.{◌≡◌, length, map};
 ghost use Rattle.plan_format.specs.Tables.{tables};
 ghost use Rattle.plan_format.specs.Reading.{Answers, opened, short};

@@ -1,4 +1,6 @@
 // `read_plan` for Rust and C, to compare it with another reader.
+#![tactic(auto)]
+
 ghost use Rattle.plan_format.specs.Tables.{tables};
 ghost use Rattle.plan_format.specs.Reading.{Answers, opened, short};
 

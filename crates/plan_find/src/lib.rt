@@ -1,4 +1,6 @@
 // The lookup in the loaded tables: a lane by its number.
+#![tactic(auto)]
+
 ghost use Rattle.std.specs.Prelude.{◌≡◌, ◌*◌, ◌≤◌, length};
 ghost use Rattle.plan_find.specs.FirstRow.{first_row, is_lane};
 

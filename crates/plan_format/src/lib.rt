@@ -1,4 +1,6 @@
 // The plan file: its answers and queries as values. What a file means stands in specs/.
+#![tactic(auto)]
+
 ghost use Rattle.std.specs.Prelude.{◌≡◌};
 ghost use Rattle.plan_format.specs.Plan.{refused};
 ghost use Rattle.plan_format.specs.Reading.{read_of};

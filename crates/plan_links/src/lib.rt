@@ -1,5 +1,7 @@
 // The tables `links` and `fans` of an accepted file: the links grouped by lane, then role, in file order.
 // One pass chains the links of each lane and role; following the chains writes them, so the time is linear.
+#![tactic(auto)]
+
 ghost use Rattle.std.specs.Prelude.{◌≡◌, map, ℕ, ◌+◌, ◌*◌, ◌≤◌, ◌<◌, length, get_or};
 ghost use Rattle.std.proofs.lemmas.List.Edits.{sets};
 ghost use Rattle.plan_format.specs.Laws.{Each, Room};

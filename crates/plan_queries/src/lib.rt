@@ -1,4 +1,6 @@
 // The queries of a plan file one by one, in file order.
+#![tactic(auto)]
+
 ghost use Rattle.std.specs.Prelude.{◌≡◌, true, ◌+◌, ◌≤◌, length};
 ghost use Rattle.fields.specs.Fields.{u16_at};
 ghost use Rattle.plan_format.specs.Plan.{fits};

@@ -1,5 +1,7 @@
 // The tables that have a row for each lane, section or place of an accepted file; each is written front to back once.
 // The lists `lanes`, `sections`, `places` have where the records of each kind start.
+#![tactic(auto)]
+
 ghost use Rattle.std.specs.Prelude.{◌≡◌, [], map, ◌+◌, ◌*◌, ◌≤◌, ◌<◌, length, replicate};
 ghost use Rattle.std.specs.Float.Ieee.{of_bits};
 ghost use Rattle.std.specs.Float.{binary32};

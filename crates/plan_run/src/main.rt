@@ -1,4 +1,6 @@
 // plan-run: reads a plan file on standard input and prints its plan line and the answer to each of its queries (document 01, "Program plan-run").
+#![tactic(auto)]
+
 ghost use Rattle.std.specs.Prelude.{◌≤◌, length};
 ghost use Rattle.io.specs.Counts.{IsPrefixLen};
 ghost use Rattle.replies.specs.Printed.{room};

@@ -1,4 +1,6 @@
 // The records of a plan file one by one: numbers 3 to 6, the counts, and where each record starts.
+#![tactic(auto)]
+
 ghost use Rattle.std.specs.Prelude.{◌≡◌, true, ◌&&◌, ◌+◌, ◌*◌, ◌≤◌, ◌<◌, length};
 ghost use Rattle.fields.specs.Fields.{u16_at};
 ghost use Rattle.plan_format.specs.Records.{floats, doubles, lane_at, section_at};

@@ -1,5 +1,7 @@
 // The numbers that look at the whole file, after its records: a caller's side above 1, then 7, then 8.
 // The lists `lanes`, `links`, `sections`, `places` have where the records of each kind start.
+#![tactic(auto)]
+
 ghost use Rattle.std.specs.Prelude.{◌≡◌, [], map, ◌+◌, ◌*◌, ◌≤◌, ◌<◌, length, get_or, take, drop};
 ghost use Rattle.fields.specs.Fields.{u16_at};
 ghost use Rattle.plan_format.specs.Laws.{Each, Room};

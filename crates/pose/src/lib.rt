@@ -1,4 +1,6 @@
 // The pose on a lane at an arc length, over the rows of a plan.
+#![tactic(auto)]
+
 ghost use Rattle.std.specs.Prelude.{◌≡◌};
 ghost use Rattle.geometry.specs.Locate.{pose_along};
 ghost use Rattle.rows.specs.Rows.{arcs_of, points_of, tangents_of};

@@ -1,5 +1,7 @@
 // The queries over the rows of a loaded plan, for Rust or C to link, each with its contract: to time them apart from loading the file.
 // The caller keeps what a `requires` says, by tables that `kartsodi_open` filled, cut to the plan's rows.
+#![tactic(auto)]
+
 ghost use Rattle.std.specs.Prelude.{◌≡◌, ◌*◌, ◌≤◌, length};
 ghost use Rattle.advance.specs.Advance.{AnswerOf, advance_rows};
 ghost use Rattle.beside.specs.Beside.{beside_rows};

@@ -1,5 +1,7 @@
 // What `plan_run` prints of a file, piece by piece: the plan line, then the reply to each query in file order. Each query is answered by its public
 // call, from the file's bytes, over tables that live for that call alone.
+#![tactic(auto)]
+
 ghost use Rattle.std.specs.Prelude.{◌≡◌, ◌≤◌, length};
 ghost use Rattle.advance.specs.InPlan.{advance_of};
 ghost use Rattle.beside.specs.InPlan.{beside_of};

@@ -1,6 +1,8 @@
 // road.rs, the named part: from a road station to metres along a lane, and back. A lane stands in its parts of the flat tables:
 // `points` (x y z of each) and `cumulative` (the arc length at each), and its section's `stations`, one for each point.
 // `specs/` says what each function answers.
+#![tactic(auto)]
+
 ghost use Rattle.std.specs.Prelude.{◌≡◌, ◌+◌, ◌*◌, ◌<◌, length};
 ghost use Rattle.geometry.specs.Partition.{leading, at_most, Rising};
 ghost use Rattle.geometry.specs.Locate.{segment_of};

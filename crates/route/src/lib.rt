@@ -1,5 +1,7 @@
 // The route query over a plan's rows: the lanes nearest to the two points, the path between them, and its points. `specs/Route.antt` says what is
 // answered.
+#![tactic(auto)]
+
 ghost use Rattle.std.specs.Prelude.{◌≡◌, ◌∷◌, [], map, ◌&&◌, ◌*◌, ◌+◌, ◌<◌, ◌≤◌, length};
 ghost use Rattle.branches.specs.Tables.{AllLaid};
 ghost use Rattle.coords.specs.Coords.{finite_point, zero⁺};

@@ -1,5 +1,7 @@
 // route.rs without the search: the points of a path of lanes. A lane is its row in the plan's tables. `specs/Sampling.antt` says which points are
 // sampled, `specs/Kept.antt` which of them are kept and how they stand in a list.
+#![tactic(auto)]
+
 ghost use Rattle.std.specs.Prelude.{◌≡◌, ◌*◌, ◌+◌, ◌-◌, ◌<◌, ◌≤◌, length};
 ghost use Rattle.branches.specs.Tables.{AllLaid, Laid};
 ghost use Rattle.geometry.specs.Locate.{point_along};

@@ -1,5 +1,7 @@
 // The search for a cheapest chain of lanes: `Search`, `lane_path` and `reconstruct` of route.rs, over the plan's tables.
 // A lane is its row in the tables.
+#![tactic(auto)]
+
 ghost use Rattle.std.specs.Prelude.{false, ◌≡◌, ◌<◌, ◌≤◌, ◌-◌, ◌*◌, length};
 ghost use Rattle.std.specs.Float.{inf};
 ghost use Rattle.rows.specs.Rows.{lane_number};

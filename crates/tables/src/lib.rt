@@ -1,4 +1,6 @@
 // The tables that a public call is lent: the plan of a file read into them, with the arc length and the tangent at each of its points.
+#![tactic(auto)]
+
 ghost use Rattle.std.specs.Prelude.{◌≡◌, ◌*◌, take};
 ghost use Rattle.geometry.specs.Over.{over};
 ghost use Rattle.geometry_rows.specs.Rows.{cumulative_rows, tangent_rows};

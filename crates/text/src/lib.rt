@@ -1,5 +1,7 @@
 // The printed form of answers (document 01, "Program plan-run"): each function writes bytes into a lent buffer and answers where the next go.
 // `specs/Lines.antt` says what a line has.
+#![tactic(auto)]
+
 ghost use Rattle.std.specs.Prelude.{◌≡◌, ◌+◌, ◌*◌, ◌<◌, ◌≤◌, length};
 ghost use Rattle.text.specs.Put.{Puts};
 ghost use Rattle.text.specs.Numerals.{digit_count, digits_of, hex_digit, hex_of};

@@ -1,5 +1,5 @@
 -- A pattern above the infinity's, its sign apart, is a NaN's.
-use Rattle.std.proofs.Common.{sym, ◌∙◌, rules}
+use Rattle.std.proofs.Common.{sym, ◌∙◌}
 use lib.Ieee.{binary64}
 use Rattle.float.proofs.Nans.{zero_over_zero, nan_above, no_nan_below}
 use Rattle.float.proofs.bits.from_bits64.Goals as goal

@@ -1,5 +1,5 @@
 -- Without its sign, a finite value alone is below the infinity.
-use Rattle.std.proofs.Common.{ap, ◌∙◌, rules}
+use Rattle.std.proofs.Common.{ap, ◌∙◌}
 use lib.Ieee.{Float, binary64, lt}
 use Rattle.float.specs.Sign.{abs_of}
 use Rattle.float.proofs.Signs.{one_over_zero, finite_by}

@@ -1,5 +1,5 @@
 -- The machine writes the pattern of a number; that of the NaN is written here.
-use Rattle.std.proofs.Common.{sym, ap, ◌∙◌, rules}
+use Rattle.std.proofs.Common.{sym, ap, ◌∙◌}
 use lib.Ieee.{binary32, to_bits}
 use Rattle.float.proofs.Nans.{nan_by, no_nan, nan_bits_law}
 use Rattle.float.proofs.bits.to_bits.Goals as goal

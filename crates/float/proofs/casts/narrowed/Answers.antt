@@ -1,5 +1,5 @@
 -- By the exponent's field: too large, normal, subnormal, too small; each case is one of Narrowing.
-use Rattle.std.proofs.Common.{◌≡◌, ℕ, ◌+◌, ◌-◌, ◌*◌, ◌/◌, ◌%◌, ◌^◌, ◌<◌, ◌≤◌, sym, ap, ◌∙◌, subst, lt_of_lt_of_le, mod-eq_of_lt, one-mul, arith, lit≤, pow_pos, pow_mono, rules}
+use Rattle.std.proofs.Common.{◌≡◌, ℕ, ◌+◌, ◌-◌, ◌*◌, ◌/◌, ◌%◌, ◌^◌, ◌<◌, ◌≤◌, sym, ap, ◌∙◌, subst, lt_of_lt_of_le, mod-eq_of_lt, one-mul, arith, lit≤, pow_pos, pow_mono}
 use lib.Pow.{pow-lt}
 use lib.Ieee.{binary32, of_bits}
 use lib.Ieee.Nearest.{closest}
@@ -60,8 +60,11 @@ returns-then-e-ge897 c = normal_of _ _ c.if-e-ge897.true c.if-e-ge1151.false c.n
 
 pub nearest_quotient-requires-then-e-ge873 : goal.nearest_quotient-requires-then-e-ge873
 nearest_quotient-requires-then-e-ge873 c = let e = c.args.a / 4503599627370496 in
-    let s = shifted e c.if-e-ge873.true in record { fact_1 = subst (λ (x : ℕ). 0 < x) (sym s) (pow_pos (926 - e)); fact_2 = subst (λ (x : ℕ). x ≤ 9007199254740992) (sym s)
-          (pow_mono {i = 926 - e} {j = 53} (omega arith)) }
+    let s = shifted e c.if-e-ge873.true in record {
+      fact_1 = subst (λ (x : ℕ). 0 < x) (sym s) (pow_pos (926 - e));
+      fact_2 = subst (λ (x : ℕ). x ≤ 9007199254740992) (sym s)
+          (pow_mono {i = 926 - e} {j = 53} (omega arith));
+    }
 
 pub overflow_cast-result-then-e-ge873 : goal.overflow_cast-result-then-e-ge873
 overflow_cast-result-then-e-ge873 c = omega (arith, (at_subnormal c).most)

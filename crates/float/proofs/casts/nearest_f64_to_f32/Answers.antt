@@ -1,5 +1,5 @@
 -- The size is narrowed, and the sign put back.
-use Rattle.std.proofs.Common.{◌≡◌, true, false, sym, ap, ◌∙◌, arith, rules}
+use Rattle.std.proofs.Common.{◌≡◌, true, false, sym, ap, ◌∙◌, arith}
 use lib.Ieee.{binary32, binary64, neg, of_bits}
 use Rattle.float.specs.Sign.{abs_of}
 use Rattle.float.specs.Narrow.{narrow_of}

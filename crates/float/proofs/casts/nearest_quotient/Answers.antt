@@ -1,5 +1,5 @@
 -- The library's `closest`, case by case of twice the remainder against u.
-use Rattle.std.proofs.Common.{ℕ, ◌*◌, ◌/◌, ◌%◌, ◌<◌, ◌≤◌, sym, le_trans, mod-lt, mul-le-mul_left, div-mul-le_self, arith, rules}
+use Rattle.std.proofs.Common.{ℕ, ◌*◌, ◌/◌, ◌%◌, ◌<◌, ◌≤◌, sym, le_trans, mod-lt, mul-le-mul_left, div-mul-le_self, arith}
 use Rattle.float.proofs.Rounded.{picks_low, picks_high, picks_even}
 use Rattle.float.proofs.casts.nearest_quotient.Goals as goal
 

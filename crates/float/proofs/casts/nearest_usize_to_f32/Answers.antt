@@ -1,5 +1,5 @@
 -- Below 2 ^ 32 it is std's; from there on 24 of 64 digits are kept, and the pattern is one of Narrowing.
-use Rattle.std.proofs.Common.{ℕ, ◌+◌, ◌-◌, ◌*◌, ◌<◌, ◌≤◌, sym, ap, ◌∙◌, subst, arith, rules}
+use Rattle.std.proofs.Common.{ℕ, ◌+◌, ◌-◌, ◌*◌, ◌<◌, ◌≤◌, sym, ap, ◌∙◌, subst, arith}
 use lib.Count.{count_leading_zeros}
 use lib.Ieee.{binary32, of_bits}
 use Rattle.float.proofs.Nans.{no_nan_below}

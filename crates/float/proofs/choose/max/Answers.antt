@@ -1,5 +1,4 @@
 -- Each return is what `max_of` picks.
-use Rattle.std.proofs.Common.{rules}
 use Rattle.float.proofs.choose.max.Goals as goal
 
 pub returns-then-y-x : goal.returns-then-y-x

@@ -1,5 +1,4 @@
 -- Each return is what `min_of` picks.
-use Rattle.std.proofs.Common.{rules}
 use Rattle.float.proofs.choose.min64.Goals as goal
 
 pub returns-then-x-y : goal.returns-then-x-y

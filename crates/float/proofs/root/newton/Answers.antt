@@ -1,5 +1,5 @@
 -- By the inequality of the two means.
-use Rattle.std.proofs.Common.{div-le_self, arith, rules}
+use Rattle.std.proofs.Common.{div-le_self, arith}
 use Rattle.float.proofs.Squares.{newton_above}
 use Rattle.float.proofs.root.newton.Goals as goal
 

@@ -1,5 +1,5 @@
 -- A subnormal is scaled; any other pattern has its 24 digits.
-use Rattle.std.proofs.Common.{ℕ, ◌+◌, ◌-◌, ◌*◌, ◌/◌, ◌%◌, ◌^◌, sym, subst, arith, rules}
+use Rattle.std.proofs.Common.{ℕ, ◌+◌, ◌-◌, ◌*◌, ◌/◌, ◌%◌, ◌^◌, sym, subst, arith}
 use lib.Ieee.{binary32}
 use Rattle.exact.specs.Patterns.{units_small, units_large}
 use Rattle.float.specs.Steps.{Form}

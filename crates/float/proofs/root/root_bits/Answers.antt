@@ -1,5 +1,5 @@
 -- The nearest whole number to the root of n, for the square n * 4 ^ k, is the root's digits, and k its exponent.
-use Rattle.std.proofs.Common.{◌-◌, ◌/◌, ◌≤◌, ◌∙◌, arith, rules}
+use Rattle.std.proofs.Common.{◌-◌, ◌/◌, ◌≤◌, ◌∙◌, arith}
 use Rattle.float.proofs.RootPatterns.{root_of_bits, in_range_law}
 use Rattle.float.proofs.root.root_bits.Goals as goal
 

@@ -1,5 +1,5 @@
 -- 24 or 23 digits are added, by the parity of the exponent.
-use Rattle.std.proofs.Common.{◌-◌, ◌/◌, refl, arith, rules}
+use Rattle.std.proofs.Common.{◌-◌, ◌/◌, refl, arith}
 use Rattle.float.proofs.Scaling.{regroup}
 use Rattle.float.proofs.root.square.Goals as goal
 

@@ -1,7 +1,5 @@
 -- The invariant: r is the whole part of √n or above it. Nothing is asked of the guess but its range: a better one only saves turns.
-use Rattle.std.proofs.Common.{◌≡◌, ℕ, ◌+◌, ◌-◌, ◌*◌, ◌/◌, ◌<◌, ◌≤◌, sym, subst, lt_of_le_of_lt, arith, lit<}
-use Rattle.float.specs.Steps.{Newton}
-use Rattle.float.proofs.Squares.{root_lt, root_le, square_fits, quotient_lt}
+use Rattle.std.proofs.Common.{◌+◌, ◌*◌, ◌<◌}
 use Rattle.float.proofs.root.whole_root.Given as goal
 
 abbrev pub invariant-loop-r : goal.invariant-loop-r

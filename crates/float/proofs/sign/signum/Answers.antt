@@ -1,5 +1,5 @@
 -- Case by case as the definition.
-use Rattle.std.proofs.Common.{true, false, sym, ap, ◌∙◌, rules}
+use Rattle.std.proofs.Common.{true, false, sym, ap, ◌∙◌}
 use lib.Ieee.{of_bits, neg}
 use Rattle.float.specs.Sign.{signum_of}
 use Rattle.float.proofs.Nans.{nan_by, no_nan}

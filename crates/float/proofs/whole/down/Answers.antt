@@ -1,5 +1,5 @@
 -- Every whole number below 2 ^ 23 is an f32.
-use Rattle.std.proofs.Common.{ℕ, pos, ap, arith, rules}
+use Rattle.std.proofs.Common.{ℕ, pos, ap, arith}
 use lib.Ieee.{binary32, of_int}
 use Rattle.float.proofs.Wholes.{in_float_law}
 use Rattle.float.proofs.whole.down.Goals as goal

@@ -1,8 +1,7 @@
 -- Below 2 ^ 23 the size goes down for a plus, up for a minus; from there on x is whole.
-use Rattle.std.proofs.Common.{sym, ◌∙◌, rules}
+use Rattle.std.proofs.Common.{sym, ◌∙◌}
 use lib.Ieee.{binary32}
 use Rattle.float.specs.Whole.{down_by, up_by, floor_of}
-use Rattle.float.specs.Steps.{Small}
 use Rattle.float.proofs.Quotients.{down_one, up_one}
 use Rattle.float.proofs.Wholes.{small_abs, plus_whole, minus_whole, own_whole, large_abs, limit32}
 use Rattle.float.proofs.whole.floor.Goals as goal

@@ -1,5 +1,5 @@
 -- The whole part and a half is at most a exactly where a half or more is left; the sum is exact.
-use Rattle.std.proofs.Common.{ℕ, ◌+◌, pos, ap, arith, rules}
+use Rattle.std.proofs.Common.{ℕ, ◌+◌, pos, ap, arith}
 use lib.Ieee.{binary64, of_int}
 use Rattle.float.proofs.Wholes.{in_float_law, half_by_law}
 use Rattle.float.proofs.whole.half_up64.Goals as goal

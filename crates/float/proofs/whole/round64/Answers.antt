@@ -1,8 +1,7 @@
 -- Below 2 ^ 52 the size goes to the nearest, and the sign is put back; from there on x is whole.
-use Rattle.std.proofs.Common.{sym, ◌∙◌, rules}
+use Rattle.std.proofs.Common.{sym, ◌∙◌}
 use lib.Ieee.{binary64}
 use Rattle.float.specs.Whole.{half_by, round_of}
-use Rattle.float.specs.Steps.{Small}
 use Rattle.float.proofs.Quotients.{half_one}
 use Rattle.float.proofs.Wholes.{small_abs, plus_whole, minus_whole, own_whole, large_abs, limit64}
 use Rattle.float.proofs.whole.round64.Goals as goal

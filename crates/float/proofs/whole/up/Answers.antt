@@ -1,5 +1,5 @@
 -- The whole part is below a exactly where a fraction is left.
-use Rattle.std.proofs.Common.{ℕ, ◌+◌, pos, ap, arith, rules}
+use Rattle.std.proofs.Common.{ℕ, ◌+◌, pos, ap, arith}
 use lib.Ieee.{binary32, of_int}
 use Rattle.float.proofs.Wholes.{in_float_law, up_by_law}
 use Rattle.float.proofs.whole.up.Goals as goal
