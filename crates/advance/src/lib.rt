@@ -19,7 +19,7 @@ use explore::Progress;
 
 // What `advance` answers: document 01's number, how many keys were entered, and how many positions stand in the lists.
 #[repr(C)]
-#[derive(Drop)]
+#[derive(Clone, Copy)]
 pub struct Advanced {
     pub number: usize,
     pub keys: usize,

@@ -10,7 +10,7 @@ use plan_format::LaneId;
 
 // A place on a lane: the road's station, and metres from the lane's center toward the left of the road.
 #[repr(C)]
-#[derive(Drop)]
+#[derive(Clone, Copy)]
 pub struct LanePosition {
     pub lane: LaneId,
     pub s: f64,
@@ -19,7 +19,7 @@ pub struct LanePosition {
 
 // What `left_of` and `right_of` answer: document 01's number, 0 where there is a lane, and the position, zeros where refused.
 #[repr(C)]
-#[derive(Drop)]
+#[derive(Clone, Copy)]
 pub struct BesideAnswer {
     pub number: usize,
     pub at: LanePosition,

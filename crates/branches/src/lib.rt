@@ -18,7 +18,7 @@ use coords::Point;
 
 // One branch in flight: the row of its lane, how far along its centerline, which way it moves along it, its offset to the left of the traffic,
 // and the distance still to go.
-#[derive(Drop)]
+#[derive(Clone, Copy)]
 pub struct Branch {
     pub lane: usize,
     pub arc: f32,
@@ -28,7 +28,7 @@ pub struct Branch {
 }
 
 // A branch as it leaves its lane at `exit`.
-#[derive(Drop)]
+#[derive(Clone, Copy)]
 pub struct Leaving {
     pub lane: usize,
     pub up: bool,
@@ -38,7 +38,7 @@ pub struct Leaving {
 }
 
 // By what branches that enter a lane are told apart.
-#[derive(Drop)]
+#[derive(Clone, Copy)]
 pub struct Key {
     pub lane: usize,
     pub arc: usize,
@@ -47,7 +47,7 @@ pub struct Key {
 }
 
 // How many branches are in flight and how many keys are entered, and whether one more would have been.
-#[derive(Drop)]
+#[derive(Clone, Copy)]
 pub struct Flight {
     pub todo: usize,
     pub entered: usize,
@@ -401,7 +401,7 @@ fn enter(
 }
 
 // What the links followed so far have led to: the branches in flight, and whether a lane follows.
-#[derive(Drop)]
+#[derive(Clone, Copy)]
 pub struct Entering {
     pub flight: Flight,
     pub any: bool,

@@ -6,9 +6,9 @@ ghost use Rattle.std.specs.Prelude.{◌≡◌};
 ghost use Rattle.coords.specs.Coords.{sub_of, add_of, plus_of, minus_of, mul_of, dot_of, cross_of, length_squared, length_of};
 ghost use Rattle.coords.specs.Coords.{distance_to, distance_squared_to, normalize_or, zero_vector, lerp_point, lerp_vector, finite_point};
 
-// A place in the world: right_handed, Z-up, metres.
+// A place in the world: right-handed, Z-up, metres.
 #[repr(C)]
-#[derive(Drop)]
+#[derive(Clone, Copy)]
 pub struct Point {
     pub x: f32,
     pub y: f32,
@@ -17,7 +17,7 @@ pub struct Point {
 
 // A displacement between places, or a direction.
 #[repr(C)]
-#[derive(Drop)]
+#[derive(Clone, Copy)]
 pub struct Vector {
     pub x: f32,
     pub y: f32,
@@ -129,7 +129,7 @@ impl Vector {
         self.x * other.x + self.y * other.y + self.z * other.z
     }
 
-    // Cross product, right_handed.
+    // Cross product, right-handed.
     pub fn cross(self, other: Vector) -> Vector
         ensures { result ≡ cross_of self other }
     {

@@ -17,14 +17,14 @@ use branches::Branch;
 use plan_format::LaneId;
 
 // Where one branch ended: it went the whole distance, or ran out of lanes, `short` metres of the distance short.
-#[derive(Drop)]
+#[derive(Clone, Copy)]
 pub enum Advance {
     Reached(LanePosition),
     DeadEnd { at: LanePosition, short: f64 },
 }
 
 // By what places are told apart.
-#[derive(Drop)]
+#[derive(Clone, Copy)]
 pub struct Placing {
     pub case: usize,
     pub lane: usize,

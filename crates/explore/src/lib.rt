@@ -12,7 +12,7 @@ ghost use Rattle.explore.specs.Held.{state_of};
 use branches::{Branch, Flight, Leaving};
 
 // How far a run has come: its branches and keys, and how many places are given.
-#[derive(Drop)]
+#[derive(Clone, Copy)]
 pub struct Progress {
     pub flight: Flight,
     pub placed: usize,

@@ -1,4 +1,4 @@
-// The square root (IEEE 754-2019, 5.4.1) by whole_number arithmetic on the bits.
+// The square root (IEEE 754-2019, 5.4.1) by whole-number arithmetic on the bits.
 ghost use Rattle.std.specs.Prelude.{◌≡◌, ◌+◌, ◌-◌, ◌*◌, ◌/◌, ◌^◌, ◌<◌, ◌≤◌, from_bits};
 ghost use Rattle.std.specs.Float.{binary32};
 ghost use Rattle.float.specs.Root.{sqrt_of};
@@ -51,7 +51,7 @@ fn nearest_root(n: u64) -> u64
 }
 
 // The number digits * 2 ^ power.
-#[derive(Drop)]
+#[derive(Clone, Copy)]
 struct Normal {
     digits: u32,
     power: u32,

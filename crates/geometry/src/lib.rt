@@ -13,7 +13,7 @@ use coords::{Point, Vector};
 
 // A position and a horizontal heading along a lane.
 #[repr(C)]
-#[derive(Drop)]
+#[derive(Clone, Copy)]
 pub struct Pose {
     pub position: Point,
     pub heading: Vector,
@@ -21,7 +21,7 @@ pub struct Pose {
 
 // The result of projecting a point onto a polyline: arc length, nearest place, and the signed distance to the left of it.
 #[repr(C)]
-#[derive(Drop)]
+#[derive(Clone, Copy)]
 pub struct Projection {
     pub s: f32,
     pub point: Point,
@@ -30,7 +30,7 @@ pub struct Projection {
 
 // A segment and the fraction of it.
 #[repr(C)]
-#[derive(Drop)]
+#[derive(Clone, Copy)]
 pub struct Located {
     pub segment: usize,
     pub t: f32,
@@ -38,7 +38,7 @@ pub struct Located {
 
 // The tangents that a lane's record may give at its two ends.
 #[repr(C)]
-#[derive(Drop)]
+#[derive(Clone, Copy)]
 pub struct Ends {
     pub given: bool,
     pub start: Vector,
@@ -46,7 +46,7 @@ pub struct Ends {
 }
 
 // The nearest projection so far, and its squared distance.
-#[derive(Drop)]
+#[derive(Clone, Copy)]
 pub struct Nearer {
     pub dist: f32,
     pub best: Projection,

@@ -15,7 +15,7 @@ use road::OnLane;
 
 // `OnLane` for C: whether the station lies on the section, and how far along the centerline it is, 0 where it does not.
 #[repr(C)]
-#[derive(Drop)]
+#[derive(Clone, Copy)]
 pub struct Centerline {
     pub on: bool,
     pub s: f32,

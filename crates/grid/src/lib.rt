@@ -11,7 +11,7 @@ ghost use Rattle.grid.specs.Ring.{near_run, ends_run, columns_run, ring_of, is_e
 
 // An axis-aligned XY footprint.
 #[repr(C)]
-#[derive(Drop)]
+#[derive(Clone, Copy)]
 pub struct Aabb {
     pub min_x: f32,
     pub max_x: f32,
@@ -87,7 +87,7 @@ fn outside(low: f32, high: f32, v: f32) -> f32
 
 // Square cells over an extent.
 #[repr(C)]
-#[derive(Drop)]
+#[derive(Clone, Copy)]
 pub struct Grid {
     pub min_x: f32,
     pub min_y: f32,
@@ -98,7 +98,7 @@ pub struct Grid {
 
 // A cell of a grid.
 #[repr(C)]
-#[derive(Drop)]
+#[derive(Clone, Copy)]
 pub struct Cell {
     pub ix: usize,
     pub iy: usize,
@@ -106,7 +106,7 @@ pub struct Cell {
 
 // The numbers first, first + step, .. below end.
 #[repr(C)]
-#[derive(Drop)]
+#[derive(Clone, Copy)]
 pub struct Run {
     pub first: usize,
     pub end: usize,

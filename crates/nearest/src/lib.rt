@@ -15,7 +15,7 @@ use plan_format::LaneId;
 
 // Document 01's number, 0 for an answer; the lane, and the place on it. All else is zero where refused.
 #[repr(C)]
-#[derive(Drop)]
+#[derive(Clone, Copy)]
 pub struct NearestAnswer {
     pub number: usize,
     pub lane: LaneId,
@@ -23,7 +23,7 @@ pub struct NearestAnswer {
 }
 
 // What is nearest to the first and to the last point of a route.
-#[derive(Drop)]
+#[derive(Clone, Copy)]
 pub struct NearestPair {
     pub from: Nearest,
     pub to: Nearest,

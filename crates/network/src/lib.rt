@@ -34,14 +34,14 @@ pub const DRIVES: [bool; 28] = [
 // An index of spans: how many there are, and the grid over them. `spans` (its lane's row, first segment, segment after the last), `boxes`
 // (least and greatest x, least and greatest y) and `ranges` (first and last column, first and last row) hold the rest.
 #[repr(C)]
-#[derive(Drop)]
+#[derive(Clone, Copy)]
 pub struct LaneIndex {
     pub count: usize,
     pub grid: Grid,
 }
 
 // The nearest span: none, or the squared distance, the span's number, its lane's row and the projection.
-#[derive(Drop)]
+#[derive(Clone, Copy)]
 pub enum Nearest {
     None,
     Found(f32, usize, usize, Projection),

@@ -7,15 +7,15 @@ ghost use Rattle.plan_format.specs.Reading.{read_of};
 
 // A lane by its number, and a road by its number: neither stands for the other, nor for a row of a table.
 #[repr(C)]
-#[derive(Drop)]
+#[derive(Clone, Copy)]
 pub struct LaneId(pub usize);
 
-#[derive(Drop)]
+#[derive(Clone, Copy)]
 pub struct RoadId(pub usize);
 
 // How many entries of each kind a plan has.
 #[repr(C)]
-#[derive(Drop)]
+#[derive(Clone, Copy)]
 pub struct Counts {
     pub lanes: usize,
     pub points: usize,
@@ -27,14 +27,14 @@ pub struct Counts {
 
 // What reading a plan answers: document 01's number, 0 for a plan, and the counts, 0 where refused.
 #[repr(C)]
-#[derive(Drop)]
+#[derive(Clone, Copy)]
 pub struct Read {
     pub number: usize,
     pub counts: Counts,
 }
 
 // A query record of the file.
-#[derive(Drop)]
+#[derive(Clone, Copy)]
 pub enum Query {
     // x, y, z from, and x, y, z to
     Route(f32, f32, f32, f32, f32, f32),
@@ -45,7 +45,7 @@ pub enum Query {
 }
 
 // The next query record, with the place after it; or none.
-#[derive(Drop)]
+#[derive(Clone, Copy)]
 pub enum NextQuery {
     Found(Query, usize),
     End,

@@ -6,7 +6,7 @@ ghost use Rattle.io.specs.Counts.{IsPrefixLen};
 ghost use Rattle.replies.specs.Printed.{room};
 
 // How many bytes standard input gave, and whether no read failed.
-#[derive(Drop)]
+#[derive(Clone, Copy)]
 struct Input {
     len: usize,
     whole: bool,

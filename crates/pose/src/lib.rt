@@ -13,7 +13,7 @@ use plan_format::LaneId;
 
 // What `pose` answers: document 01's number, 0 with the pose; zeros where refused.
 #[repr(C)]
-#[derive(Drop)]
+#[derive(Clone, Copy)]
 pub struct Posed {
     pub number: usize,
     pub pose: Pose,

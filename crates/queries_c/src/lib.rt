@@ -26,7 +26,7 @@ use route::RouteAnswer;
 
 // `Nearest` for C: zeros where nothing is found.
 #[repr(C)]
-#[derive(Drop)]
+#[derive(Clone, Copy)]
 pub struct Hit {
     pub found: bool,
     pub dist2: f32,

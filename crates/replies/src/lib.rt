@@ -21,7 +21,7 @@ use plan_queries::next_query;
 use route::RouteAnswer;
 
 // A piece of text: how many bytes it has, whether more follow, and from which place in the file on.
-#[derive(Drop)]
+#[derive(Clone, Copy)]
 pub struct Piece {
     pub len: usize,
     pub more: bool,

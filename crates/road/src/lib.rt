@@ -9,7 +9,7 @@ ghost use Rattle.geometry.specs.Locate.{segment_of};
 ghost use Rattle.road.specs.Along.{Stationed, fraction_at, along_of, short_of, reached_by, part_of, station_on, station_of, centerline_of};
 
 // How far along the centerline a station is, or that it is off the section.
-#[derive(Drop)]
+#[derive(Clone, Copy)]
 pub enum OnLane {
     At(f32),
     Off,

@@ -23,7 +23,7 @@ use search::Answer;
 
 // Document 01's number, 0 for an answer; how many lanes and points stand in the lists, and the length. All else is zero where refused.
 #[repr(C)]
-#[derive(Drop)]
+#[derive(Clone, Copy)]
 pub struct RouteAnswer {
     pub number: usize,
     pub lanes: usize,

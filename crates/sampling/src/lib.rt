@@ -16,7 +16,7 @@ ghost use Rattle.sampling.specs.Passes.{AllLinked, Linking, PathRows, Sampled, S
 use coords::Point;
 
 // How many points are kept, and the last of them.
-#[derive(Drop)]
+#[derive(Clone, Copy)]
 pub struct Kept {
     pub count: usize,
     pub last: Point,

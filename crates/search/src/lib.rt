@@ -14,7 +14,7 @@ const LANE_CHANGE_COST: f32 = 30.0;
 
 // The best cost to each lane, the lane it was reached from, and a mark. No heap is kept: the open lane of least `dist` is what the Rust would pop
 // (`heap_form`, crate optimality). `closed` is 1 for a lane that was taken and expanded.
-#[derive(Drop)]
+#[derive(Clone, Copy)]
 pub struct Search {
     pub dist: [f32; 256],
     pub prev: [u8; 256],
@@ -173,7 +173,7 @@ fn settle(
 }
 
 // Where the search ended: whether the goal is the least open lane, and the last state.
-#[derive(Drop)]
+#[derive(Clone, Copy)]
 pub struct Ended {
     pub ok: bool,
     pub search: Search,
@@ -219,7 +219,7 @@ fn find(
 }
 
 // A chain of lanes: those of `lanes` from `at` on.
-#[derive(Drop)]
+#[derive(Clone, Copy)]
 pub struct Path {
     pub at: usize,
     pub lanes: [usize; 257],
@@ -262,7 +262,7 @@ fn to_front(path: Path) -> [usize; 257]
 }
 
 // A route's lanes, `count` of them at the front of `path`, and its search cost; all zero where there is none.
-#[derive(Drop)]
+#[derive(Clone, Copy)]
 pub struct Answer {
     pub ok: bool,
     pub cost: f32,
