@@ -11,26 +11,26 @@ use Rattle.network.proofs.build.Goals as goal
 
 pub returns-then-count-eq0 : goal.returns-then-count-eq0
 unfolding grid_for
-returns-then-count-eq0 c = built_none _ _ _ _ _ _ _ c.write_spans-count.ensures c.if-count-eq0.taken
+returns-then-count-eq0 c = built_none _ _ _ _ _ _ _ c.write_spans-count.ensures c.if-count-eq0.true
 
 pub write_ranges-requires : goal.write_ranges-requires
 write_ranges-requires c =
     let room =
     boxes_room_law _ _ _ _ _ _ c.args.ranges.now
-    c.write_spans-arg-1.ensures c.pre.1
+    c.write_spans-count.ensures c.requires.1
     (omega arith) in
-    let s = subst (λ (g : Grid). Sides g) (sym c.build.ensures) (sides _ _) in
-    let n = c.write_spans-arg-1.ensures.count in
-    let r = c.pre.2 in
+    let s = subst (λ (g : Grid). Sides g) (sym c.build-g.ensures) (sides _ _) in
+    let n = c.write_spans-count.ensures.count in
+    let r = c.requires.2 in
     (omega arith, omega arith, s.cols, s.rows)
 
 pub returns : goal.returns
 returns c =
     let e =
     grid_is _ _ _ _ _ _ c.args.ranges.now
-    c.write_spans-arg-1.ensures
-    c.pre.1 (omega arith) _ _ c.extent.ensures
-    c.build.ensures in
+    c.write_spans-count.ensures
+    c.requires.1 (omega arith) _ _ c.extent.ensures
+    c.build-g.ensures in
     built_some _ _ _ _ _ _ _
-    c.write_spans-arg-1.ensures
-    c.pre.1 (omega arith) _ _ e c.write_ranges.ensures
+    c.write_spans-count.ensures
+    c.requires.1 (omega arith) _ _ e c.write_ranges.ensures

@@ -6,7 +6,7 @@ use Rattle.network.proofs.ceiling.Goals as goal
 
 pub returns-in-None : goal.returns-in-None
 unfolding div of_bits
-returns-in-None c = λ lanes points. rw c.enum_told-1.given.1 refl
+returns-in-None c = λ lanes points. rw c.in-None.is refl
 
 pub returns-in-Found : goal.returns-in-Found
-returns-in-Found c = λ lanes points. rw c.best-1.given.1 refl
+returns-in-Found c = λ lanes points. rw c.in-Found.is refl

@@ -17,7 +17,7 @@ returns-then-ceiling-dist2 c =
     let box = c.dist2.ensures ∙ ap (λ (b : Aabb). dist2 b a.p.x a.p.y) c.box_at.ensures in
     let lost =
     ap (λ (v : Float). lt v c.dist2.result)
-    (sym (c.ceiling.ensures a.lanes.now a.points.now)) ∙ c.if-ceiling-dist2.taken in
+    (sym (c.ceiling.ensures a.lanes.now a.points.now)) ∙ c.if-ceiling-dist2.true in
     box_loses a.p (item_in a.lanes.now a.points.now a.spans.now a.boxes.now a.index a.i)
     (best_of a.lanes.now a.points.now a.best) _ box lost
 
@@ -37,7 +37,7 @@ returns c =
     let stays =
     ap (λ (v : Float). lt v c.dist2.result)
     (sym (c.ceiling.ensures a.lanes.now a.points.now))
-    ∙ c.if-ceiling-dist2.left in
+    ∙ c.if-ceiling-dist2.false in
     let q =
     projected_is a.lanes.now a.points.now a.cumulative.now a.spans.now a.boxes.now a.ranges.now a.index.grid
     a.i a.p _

@@ -6,8 +6,8 @@ use Rattle.network.proofs.enough.Goals as goal
 
 pub returns-in-None : goal.returns-in-None
 unfolding enough
-returns-in-None c = λ lanes points. rw c.enum_told-1.given.1 refl
+returns-in-None c = λ lanes points. rw c.in-None.is refl
 
 pub returns-in-Found : goal.returns-in-Found
 unfolding enough
-returns-in-Found c = λ lanes points. rw c.best-1.given.1 c.reached.ensures
+returns-in-Found c = λ lanes points. rw c.in-Found.is c.reached.ensures

@@ -16,7 +16,7 @@ returns-then-holds c =
     a.cell.ix a.cell.iy (c.requires.0.each a.i c.requires.1) in
     c.consider.ensures
     ∙ ap (λ (t : Bool). offered t a.p it (best_of a.lanes.now a.points.now a.best))
-    (sym c.if-holds.taken ∙ c.holds.ensures ∙ is)
+    (sym c.if-holds.true ∙ c.holds.ensures ∙ is)
 
 pub returns : goal.returns
 unfolding offered
@@ -27,4 +27,4 @@ returns c =
     holds_is a.lanes.now a.points.now a.cumulative.now a.spans.now a.boxes.now a.ranges.now a.index a.i
     a.cell.ix a.cell.iy (c.requires.0.each a.i c.requires.1) in
     ap (λ (t : Bool). offered t a.p it (best_of a.lanes.now a.points.now a.best))
-    (sym c.if-holds.left ∙ c.holds.ensures ∙ is)
+    (sym c.if-holds.false ∙ c.holds.ensures ∙ is)
