@@ -44,8 +44,8 @@ group_links-requires c =
         link = L.link;
         links_count = L.links;
         index = L.index.size;
-        first_size = kept.1.1.1.0;
-        next_size = omega (arith, L.links, kept.1.1.1.1.0);
+        first_size = kept.first;
+        next_size = omega (arith, L.links, kept.next);
         chains = chain-links.ensures;
       },
       pre.1,

@@ -53,11 +53,11 @@ module _ (m : ℕ) (d : Float) (x : ℕ) (e : Float) (y : ℕ) where
       level q = rw (open_lane, no_farther, p, q) refl
 
 -- the test against the distance of a lane without an entry
-far : (d top : Float) → top ≡ inf false → not (lt d top) ≡ true → lt d (inf false) ≡ false
-far d top e h = ap (lt d) (sym e) ∙ not-true (lt d top) h
+far : (d top : Float) → top ≡ inf false → lt d top ≡ false → lt d (inf false) ≡ false
+far d top e h = ap (lt d) (sym e) ∙ h
 
-near : (d top : Float) → top ≡ inf false → not (lt d top) ≡ false → lt d (inf false) ≡ true
-near d top e h = ap (lt d) (sym e) ∙ not-false (lt d top) h
+near : (d top : Float) → top ≡ inf false → lt d top ≡ true → lt d (inf false) ≡ true
+near d top e h = ap (lt d) (sym e) ∙ h
 
 pub returns-then-mark-cost : goal.returns-then-mark-cost
 returns-then-mark-cost c = let a = c.args in sym (closed_or_farther a.mark a.d a.x a.cost a.number c.if-mark-cost.true)

@@ -6,11 +6,12 @@ use Prim.Native.Nat.{◌-◌, ◌<◌, ◌≤◌}
 use native.Mathlib.Omega.{arith}
 use Rattle.search.specs.Loops.{Scan, scan_skips, scan_starts, scan_takes}
 use Rattle.search.proofs.least.Goals as goal
+use Rattle.search.proofs.least.Goals.{then-is_before, else-is_before}
 
 pub loop-i-init : goal.loop-i-init
 loop-i-init c =
     let u = c.unreached-cost in
-    (omega arith, scan_starts c.args.lanes.now c.args.t1 c.requires.0 u.result 0 u.ensures)
+    (omega arith, scan_starts c.args.lanes.now c.args.search c.requires.0 u.result 0 u.ensures)
 
 pub bounds-search-i : goal.bounds-search-i
 bounds-search-i c = omega (arith, c.requires.0.closed)
@@ -28,12 +29,12 @@ loop-i-preserved c =
     let i = c.if-is_before in
     let l : o.i < 256 = omega arith in (
       omega arith,
-      ⊎_elim
-          (λ w. scan_takes a.lanes.now a.t1 Z o.i o.best o.cost o.number S l b.result b.ensures
-          w.0.taken i.best i.cost i.number w.1 w.2 w.3)
-          (λ w. scan_skips a.lanes.now a.t1 Z o.i o.best o.cost o.number S l b.result b.ensures
-          w.0.left i.best i.cost i.number w.1 w.2 w.3)
-          i.branch,
+      elim i.branch [
+        then-is_before w ↦ scan_takes a.lanes.now a.search Z o.i o.best o.cost o.number S l b.result b.ensures
+            w.if-is_before.true i.best i.cost i.number w.best-is w.cost-is w.number-is
+      | else-is_before w ↦ scan_skips a.lanes.now a.search Z o.i o.best o.cost o.number S l b.result b.ensures
+            w.if-is_before.false i.best i.cost i.number w.best-is w.cost-is w.number-is
+      ],
     )
 
 pub returns : goal.returns

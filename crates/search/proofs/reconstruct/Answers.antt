@@ -9,13 +9,10 @@ use Rattle.search.proofs.reconstruct.Goals as goal
 pub loop-k-init : goal.loop-k-init
 loop-k-init c =
     let a = c.args in
-    (rebuilding_starts a.t1.prev a.start a.goal (replicate 257 0) (length-replicate {A = ℕ} 257 0) c.requires.1, c.requires.0)
+    (rebuilding_starts a.search.prev a.start a.goal (replicate 257 0) (length-replicate {A = ℕ} 257 0) c.requires.1, c.requires.0)
 
 pub bounds-search-cur : goal.bounds-search-cur
 bounds-search-cur c = omega (arith, c.loop-k.invariant.0.lane, c.loop-k.invariant.1.prev)
-
-pub overflow_cast-cur : goal.overflow_cast-cur
-overflow_cast-cur c = omega (arith, c.loop-k.invariant.1.inside c.loop-k.cur)
 
 pub offset_bounds-lanes-k : goal.offset_bounds-lanes-k
 offset_bounds-lanes-k c = omega (arith, c.loop-k.invariant.0.most)
@@ -27,18 +24,18 @@ pub returns-then-cur-start : goal.returns-then-cur-start
 returns-then-cur-start c =
     let a = c.args in
     let o = c.loop-k in
-    rebuilding_ends a.t1.prev a.start a.goal o.cur o.lanes o.k o.invariant.0 (omega arith) c.if-cur-start.true
+    rebuilding_ends a.search.prev a.start a.goal o.cur o.lanes o.k o.invariant.0 (omega arith) c.if-cur-start.true
 
 pub loop-k-preserved : goal.loop-k-preserved
 loop-k-preserved c =
     let a = c.args in
     let o = c.loop-k in
     let Z = o.invariant.1 in
-    let next = rebuilding_next a.t1.prev a.start a.goal o.cur o.lanes o.k o.invariant.0 in
+    let next = rebuilding_next a.search.prev a.start a.goal o.cur o.lanes o.k o.invariant.0 in
     (next (omega arith) c.if-cur-start.false (Z.inside o.cur), Z)
 
 pub returns : goal.returns
 returns c =
     let a = c.args in
     let o = c.loop-k in
-    rebuilding_spent a.t1.prev a.start a.goal o.cur o.lanes o.k o.invariant.0 (omega arith)
+    rebuilding_spent a.search.prev a.start a.goal o.cur o.lanes o.k o.invariant.0 (omega arith)

@@ -1,11 +1,11 @@
 -- `relax_links` relaxes its rows. Its loop keeps `Relaxing`: the rows left make of the state now what all make of the first one.
-use mathlib.Core.Logic.{⊎_elim}
 use mathlib.Core.Path.{subst, sym}
 use Prim.Native.Nat.{◌+◌, ◌-◌, ◌<◌}
 use native.Mathlib.Omega.{arith}
 use Rattle.search.specs.Loops.{LinkRows, Relaxing, link_rows, relaxing_ends, relaxing_skips, relaxing_starts, relaxing_takes}
 use Rattle.search.specs.declared.Search.{Search}
 use Rattle.search.proofs.relax_links.Goals as goal
+use Rattle.search.proofs.relax_links.Goals.{then-next-count, else-next-count}
 
 pub loop-at-init : goal.loop-at-init
 loop-at-init c =
@@ -43,8 +43,10 @@ loop-at-preserved c =
     let Kept : Search → Type 0 = λ s. Relaxing X a.search s (o.at + 1) in
     let takes = relaxing_takes X a.search o.s o.at o.invariant in
     let skips = relaxing_skips X a.search o.s o.at o.invariant under in
-    ⊎_elim (λ w. subst Kept (sym w.2) (takes w.1.result under w.0.taken w.1.ensures.0 w.1.ensures.1))
-    (λ w. subst Kept (sym w.1) (skips w.0.left)) c.if-next-count.branch
+    elim c.if-next-count.branch [
+      then-next-count w ↦ subst Kept (sym w.s-is) (takes w.relax-s.result under w.if-next-count.true w.relax-s.ensures.0 w.relax-s.ensures.1)
+    | else-next-count w ↦ subst Kept (sym w.s-is) (skips w.if-next-count.false)
+    ]
 
 pub returns : goal.returns
 returns c =

@@ -34,13 +34,13 @@ loop-i-smaller c = omega arith
 
 pub loop-i-preserved : goal.loop-i-preserved
 loop-i-preserved c =
-    let p = c.args.t1 in
+    let p = c.args.path in
     let o = c.loop-i in
     (omega arith, rw o.invariant.1 (front_next p.lanes p.at o.i c.requires.1 (omega arith)))
 
 pub returns : goal.returns
 returns c =
-    let p = c.args.t1 in
+    let p = c.args.path in
     let o = c.loop-i in
     let e : o.i ≡ 257 - p.at = omega arith in
     o.invariant.1 ∙ ap (front p.lanes p.at) e
