@@ -162,7 +162,7 @@ module _ (numbers : List ℕ) (lengths : List Float) (links : List Link) (lanes 
       firsts : edges G.links G.count (length_of G u) (first_link G.fans u) (successors G.fans u) ≡ steps_at 0 u (len u)
       firsts =
           ap₂ (λ (w : Float) (k : ℕ). edges G.links G.count w (first_link G.fans u) k) (T.long u l) (T.successors_count u l)
-          ∙ of_rows (len u) (linked links (N u) 0) (first_link G.fans u) (λ j h. T.Successor-row u j l h)
+          ∙ of_rows (len u) (linked links (N u) 0) (first_link G.fans u) (λ j h. T.successor_row u j l h)
 
       lasts : edges G.links G.count lane_change (first_neighbour G.fans u) (neighbours G.fans u) ≡ steps_at 2 u lane_change
       lasts =

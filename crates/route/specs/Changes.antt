@@ -77,4 +77,4 @@ module _ (p : Plan) (A : Accepted p) where
         rw (R.number u lu, R.number v (in_numbers v hv))
         (ap₂ (λ (neighbour successor : Bool). neighbour && not successor)
         (leads_role 2 (first_neighbour fans u) (neighbours fans u) (R.neighbours_count u lu) (λ j l. R.neighbour_row u j lu l))
-        (leads_role 0 (first_link fans u) (successors fans u) (R.successors_count u lu) (λ j l. R.Successor-row u j lu l)))
+        (leads_role 0 (first_link fans u) (successors fans u) (R.successors_count u lu) (λ j l. R.successor_row u j lu l)))
