@@ -83,12 +83,12 @@ loop-k-preserved c =
     let loop = c.loop-k in
     let a = c.args in
     let i = loop.invariant in
-    let x = enter-link.auto.1.1.1.1.1.1.1 in (
+    let x = enter-link.auto in (
       omega (arith, loop-test.true),
-      x.0 ∙ i.1,
-      x.1.0 ∙ i.2,
-      x.1.1.0 ∙ i.3,
-      x.1.1.1.0 ∙ i.4,
+      x.todo ∙ i.1,
+      x.arcs ∙ i.2,
+      x.metres ∙ i.3,
+      x.keys ∙ i.4,
       enter-link.ensures.0,
       links_next a.lanes.now a.n a.points.now a.cumulative.now a.ahead a.l a.links.now a.end loop.k
           (front_of a.p a.todo.now a.arcs.now a.metres.now a.keys.now) _ _ i.6 enter-link.ensures.1,
