@@ -1,10 +1,10 @@
 /* Kartsodi: lane queries for road-junction plans. The five public calls, for callers in C99 and C++ on x86-64 Linux.
  *
- * Link libkartsodi.a, which `c/build` writes to target/staticlib; it needs nothing but memset and memcpy. c/example.c asks every call once.
+ * Link libkartsodi.a, which `c/build` writes to target/staticlib; it needs nothing but memset, memcpy and memmove. c/example.c asks every call once.
  *
- * A call takes a plan file's bytes (README.md, "The plan file"), the fields of one query, the eleven tables to work in and, for a route and an
+ * A call takes a plan file's bytes (docs/FORMAT.md, "The plan file"), the fields of one query, the eleven tables to work in and, for a route and an
  * advance, the lists for the answer. It answers every input, however long each piece of memory is: with number 0 and the one answer that the proved
- * definitions give, or with the first number that says why there is none, all other fields zero (README.md, "The numbers").
+ * definitions give, or with the first number that says why there is none, all other fields zero (docs/NUMBERS.md).
  *
  * Memory: a call reads and writes only what is lent to it, keeps no pointer and allocates nothing. The caller owns everything. On return the tables
  * hold the plan, so that they may be looked at, and entries past it are as before; after numbers 1 to 8 they are all as before. They need no set
@@ -25,6 +25,13 @@
 extern "C" {
 #endif
 
+/* The version. It is set here, and in the Cargo.toml of rust/ and of tool/, since cargo takes it from nowhere else; plan-run and the pkg-config file
+ * have it from here, and .ci/test-install sees that all agree. */
+#define KARTSODI_VERSION "0.1.0"
+#define KARTSODI_VERSION_MAJOR 0
+#define KARTSODI_VERSION_MINOR 1
+#define KARTSODI_VERSION_PATCH 0
+
 /* The most that a plan may hold. */
 #define KARTSODI_MAX_FILE 65536 /* bytes */
 #define KARTSODI_MAX_LANES 256
@@ -40,7 +47,7 @@ extern "C" {
 #define KARTSODI_ROUTE_POINTS 4096
 #define KARTSODI_POSITIONS 256
 
-/* The numbers. README.md says of each what to do. */
+/* The numbers. docs/NUMBERS.md says of each what to do. */
 enum {
     KARTSODI_OK = 0,
     KARTSODI_SHORT_TABLE = 1,      /* a table is shorter than its limit; not with KARTSODI_LEND */
@@ -59,6 +66,47 @@ enum {
     KARTSODI_TOO_MUCH = 14,        /* more than 1,024 branch keys, or an answer longer than a list lent for it */
     KARTSODI_NONE_BESIDE = 15
 };
+
+/* What a number says, in the words of docs/NUMBERS.md; of every number something. */
+static inline const char *kartsodi_words(size_t number)
+{
+    switch (number) {
+    case KARTSODI_OK:
+        return "an answer without fault";
+    case KARTSODI_SHORT_TABLE:
+        return "a table lent to a public call is shorter than its limit";
+    case KARTSODI_LONG_FILE:
+        return "the file is longer than 65,536 bytes";
+    case KARTSODI_CUT_RECORD:
+        return "a record has no whole header, or runs past the file's end";
+    case KARTSODI_WRONG_RECORD:
+        return "a record's kind is unknown, or its length does not fit its kind and counts";
+    case KARTSODI_OUT_OF_RANGE:
+        return "a field is out of its range";
+    case KARTSODI_PAST_LIMIT:
+        return "a record passes a limit";
+    case KARTSODI_STANDS_TWICE:
+        return "a lane, a section, a lane's place, or an OpenDRIVE number within a section stands twice";
+    case KARTSODI_MISSING:
+        return "a link's 'from', a place's lane or section is missing, or a placed lane has another number of points than its section has stations";
+    case KARTSODI_NOT_A_POINT:
+        return "a coordinate of a route or nearest-lane query is not finite";
+    case KARTSODI_NONE_DRIVES:
+        return "no lane of the plan drives";
+    case KARTSODI_NO_WAY:
+        return "the goal does not lie ahead on the start's own lane, and no chain of successors and neighbours leads to it";
+    case KARTSODI_NOT_ON_A_LANE:
+        return "the lane is unknown or has no place, or s is not within its section; of a pose, the lane is unknown";
+    case KARTSODI_NOT_A_DISTANCE:
+        return "the distance is not finite";
+    case KARTSODI_TOO_MUCH:
+        return "more than 1,024 keys of an advance, or the answer is longer than a list lent for it";
+    case KARTSODI_NONE_BESIDE:
+        return "no lane is on that side";
+    default:
+        return "no number of this version";
+    }
+}
 
 enum { KARTSODI_LEFT = 0, KARTSODI_RIGHT = 1 };
 enum { KARTSODI_REACHED = 0, KARTSODI_DEAD_END = 1 };
