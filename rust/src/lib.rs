@@ -23,14 +23,42 @@
 //!
 //! Queries panic over a library of another version, where it gives a number that this crate does not know.
 
+#![no_std]
 #![deny(missing_docs)]
 
+extern crate alloc;
+
+/// The examples of the crate's README.
+#[cfg(doctest)]
+#[doc = include_str!("../README.md")]
+struct Readme;
+
 pub mod lent;
+mod opened;
+pub mod records;
 mod refusal;
 
 pub use refusal::Refusal;
 
-use std::fmt;
+use alloc::vec;
+use alloc::vec::Vec;
+use core::fmt;
+use opened::Tables;
+
+/// The version of this crate and of the library that it stands over.
+pub const VERSION: &str = env!("CARGO_PKG_VERSION");
+
+/// How many lanes, points and so on a plan has.
+#[derive(Debug, Clone, Copy, PartialEq, Eq, Default)]
+#[allow(missing_docs)]
+pub struct Counts {
+    pub lanes: usize,
+    pub points: usize,
+    pub links: usize,
+    pub sections: usize,
+    pub stations: usize,
+    pub places: usize,
+}
 
 /// A lane by its number in the plan.
 #[repr(C)]
@@ -159,61 +187,11 @@ impl Default for Room {
     }
 }
 
-/// The eleven tables, each of its limit.
-#[derive(Clone)]
-struct Tables {
-    lanes: Vec<usize>,
-    points: Vec<f32>,
-    ends: Vec<f32>,
-    fans: Vec<usize>,
-    links: Vec<usize>,
-    sections: Vec<usize>,
-    bounds: Vec<f64>,
-    stations: Vec<f64>,
-    places: Vec<usize>,
-    cumulative: Vec<f32>,
-    tangents: Vec<f32>,
-}
-
-impl Tables {
-    fn new() -> Self {
-        let [lanes, points, ends, fans, links, sections, bounds, stations, places, cumulative, tangents] = lent::LIMITS;
-        Tables {
-            lanes: vec![0; lanes],
-            points: vec![0.0; points],
-            ends: vec![0.0; ends],
-            fans: vec![0; fans],
-            links: vec![0; links],
-            sections: vec![0; sections],
-            bounds: vec![0.0; bounds],
-            stations: vec![0.0; stations],
-            places: vec![0; places],
-            cumulative: vec![0.0; cumulative],
-            tangents: vec![0.0; tangents],
-        }
-    }
-
-    fn lend(&mut self) -> lent::Tables<'_> {
-        lent::Tables {
-            lanes: &mut self.lanes,
-            points: &mut self.points,
-            ends: &mut self.ends,
-            fans: &mut self.fans,
-            links: &mut self.links,
-            sections: &mut self.sections,
-            bounds: &mut self.bounds,
-            stations: &mut self.stations,
-            places: &mut self.places,
-            cumulative: &mut self.cumulative,
-            tangents: &mut self.tangents,
-        }
-    }
-}
-
 /// A junction's plan: its file, and the memory for the calls.
 #[derive(Clone)]
 pub struct Plan {
     file: Vec<u8>,
+    counts: Counts,
     tables: Tables,
     chain: Vec<usize>,
     waypoints: Vec<f32>,
@@ -250,17 +228,53 @@ impl Plan {
     pub fn with_room(file: &[u8], room: Room) -> Result<Plan, Refusal> {
         let mut plan = Plan {
             file: file.to_vec(),
+            counts: Counts::default(),
             tables: Tables::new(),
-            chain: vec![0; room.lanes],
-            waypoints: vec![0.0; 3 * room.points],
-            rows: vec![0; 2 * room.positions],
-            metres: vec![0.0; 3 * room.positions],
+            chain: vec![],
+            waypoints: vec![],
+            rows: vec![],
+            metres: vec![],
         };
+        plan.set_room(room);
         // The file's numbers come before that of an unknown lane.
         match plan.pose(NO_LANE, 0.0) {
-            Err(refusal) if refusal != Refusal::NotOnALane => Err(refusal),
-            _ => Ok(plan),
+            Err(refusal) if refusal != Refusal::NotOnALane => return Err(refusal),
+            _ => plan.counts = opened::counts(file),
         }
+        Ok(plan)
+    }
+
+    /// Gives the answers to come other room: more after [`Refusal::TooMuch`], say.
+    pub fn set_room(&mut self, room: Room) {
+        self.chain = vec![0; room.lanes];
+        self.waypoints = vec![0.0; 3 * room.points];
+        self.rows = vec![0; 2 * room.positions];
+        self.metres = vec![0.0; 3 * room.positions];
+    }
+
+    /// How many lanes, points and so on the plan has.
+    pub fn counts(&self) -> Counts {
+        self.counts
+    }
+
+    /// The plan's lanes, in file order.
+    pub fn lanes(&self) -> Vec<records::Lane> {
+        self.tables.lanes(self.counts)
+    }
+
+    /// The plan's links: lane by lane in file order, of each its successors, its predecessors and its neighbours, each of these in file order.
+    pub fn links(&self) -> Vec<records::Link> {
+        self.tables.links(self.counts)
+    }
+
+    /// The plan's sections, in file order.
+    pub fn sections(&self) -> Vec<records::Section> {
+        self.tables.sections(self.counts)
+    }
+
+    /// The plan's places, in file order.
+    pub fn places(&self) -> Vec<records::Place> {
+        self.tables.places(self.counts)
     }
 
     /// The place and the heading on a lane at the arc length `s`; before or past the lane, those of its ends.

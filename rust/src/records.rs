@@ -1,5 +1,5 @@
 //! The plan file as records: [`read`] takes a file apart, [`write`] puts one together, and [`Plan::lanes`](crate::Plan::lanes) and the like give the
-//! records of an opened plan.
+//! records of a plan as the library has read them.
 //!
 //! ```
 //! use kartsodi::records::{self, Direction, Lane, LaneType, Record, RouteQuery};
@@ -18,7 +18,7 @@
 //! # Ok::<(), Box<dyn std::error::Error>>(())
 //! ```
 //!
-//! This is a reading of the file format (README.md, "The plan file") beside the library's, and it asks for less: a record must be whole, of a known
+//! This is a reading of the file format (docs/FORMAT.md, "The plan file") beside the library's, and it asks for less: a record must be whole, of a known
 //! kind and of a fitting length, and its bytes must name a type, a direction and so on. Whether the records make a plan, the library decides
 //! ([`Plan::new`](crate::Plan::new)). What is read is written back as the same bytes, those of every NaN too.
 

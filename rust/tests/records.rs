@@ -44,7 +44,7 @@ fn accepted_files_are_written_back() {
 
 /// Of every accepted file the records are those that the library reads.
 #[test]
-fn records_of_an_opened_plan() {
+fn records_of_a_plan() {
     for file in fixed() {
         let Ok(plan) = Plan::new(&file) else { continue };
         let (mut lanes, mut links, mut sections, mut places) = (vec![], vec![], vec![], vec![]);
