@@ -52,17 +52,17 @@ pub const OFF_LANE: f64 = 2.0;
 impl Paper {
     /// The paper of a plan file, or the library's refusal of it.
     pub fn new(file: Vec<u8>) -> Result<Paper, Refusal> {
-        let plan = Plan::new(&file)?;
+        let mut plan = Plan::new(&file)?;
         // The library accepts no file that cannot be read here; if it did, nothing would be answered that cannot be shown.
         let records = records::read(&file).map_err(|error| error.refusal())?;
-        let answers = records.iter().filter_map(|record| Answered::new(&plan, &records, record)).collect();
+        let answers = records.iter().filter_map(|record| Answered::new(&mut plan, &records, record)).collect();
         Ok(Paper { file, plan, records, answers })
     }
 }
 
 impl Answered {
     /// The answer to a record; none where it is no question.
-    fn new(plan: &Plan, records: &[Record], record: &Record) -> Option<Answered> {
+    fn new(plan: &mut Plan, records: &[Record], record: &Record) -> Option<Answered> {
         Some(match record {
             Record::Route(query) => Answered::Route {
                 query: *query,
@@ -83,7 +83,7 @@ impl Answered {
 
 impl Snap {
     /// Where the library takes a point to; none where it refuses to.
-    pub fn new(plan: &Plan, records: &[Record], point: Point) -> Option<Snap> {
+    pub fn new(plan: &mut Plan, records: &[Record], point: Point) -> Option<Snap> {
         let nearest = plan.nearest_lane(point).ok()?;
         let metres = geometry::distance(nearest.projection.point, point);
         let off = |lane: &Lane| geometry::distance_to_line(&lane.points, point);

@@ -411,7 +411,7 @@ fn finding_6_help_answers_at_once() {
 fn finding_6_answers_in_metres() {
     let page = answered(&String::from_utf8(file("examples/junction.txt")).unwrap());
     for line in [
-        "standard input: 6 lanes, 10 links, 5 questions",
+        "standard input: 6 lanes, 6 links, 5 questions",
         "1. route from (-30, -5.25, 0) to (1.75, 30, 0)",
         "   lanes 2, 1, 4, 6; cost 78.869; 32 points",
         "   cost: 30 for the change from lane 2 to lane 1, 30.000 for lane 1, 18.869 for lane 4; \
