@@ -1,4 +1,4 @@
-//! Links the proved polyline and stations: `rt staticlib geometry_c` writes it to target/staticlib.
+//! Links the proved polyline and stations: `c/archive geometry_c` writes it to target/staticlib.
 fn main() {
     let root = std::path::Path::new(env!("CARGO_MANIFEST_DIR")).join("../../target/staticlib");
     println!("cargo:rustc-link-search=native={}", root.display());

@@ -1,4 +1,4 @@
-//! Links the queries over a plan's rows: `rt staticlib queries_c` writes them to target/staticlib. The crate kartsodi links the public calls.
+//! Links the queries over a plan's rows: `c/archive queries_c` writes them to target/staticlib. The crate kartsodi links the public calls.
 fn main() {
     let root = std::path::Path::new(env!("CARGO_MANIFEST_DIR")).join("../../target/staticlib");
     println!("cargo:rustc-link-search=native={}", root.display());

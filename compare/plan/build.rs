@@ -1,4 +1,4 @@
-//! Links the proved reader: `rt staticlib plan_c` writes it to target/staticlib.
+//! Links the proved reader: `c/archive plan_c` writes it to target/staticlib.
 fn main() {
     let root = std::path::Path::new(env!("CARGO_MANIFEST_DIR")).join("../../target/staticlib");
     println!("cargo:rustc-link-search=native={}", root.display());

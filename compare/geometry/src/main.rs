@@ -1,6 +1,6 @@
 //! Compares the proved polyline and stations (crates geometry and road) with the oracle's cut of the source, query by query.
 //!
-//! `compare-geometry [COUNT [SEED]]`, after `rt staticlib geometry_c`.
+//! `compare-geometry [COUNT [SEED]]`, after `c/archive geometry_c`.
 
 mod draw;
 mod ours;

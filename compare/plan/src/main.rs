@@ -1,7 +1,7 @@
 //! Compares the proved reader of plan files with the oracle's: number, counts and every entry of every table,
 //! entries past the counts and the tables of a refused file too. Then times both on a full file.
 //!
-//! `compare-plan [COUNT [SEED]]`, after `rt staticlib plan_c`.
+//! `compare-plan [COUNT [SEED]]`, after `c/archive plan_c`.
 
 use compare_common::reader;
 use compare_common::tables::{Counts, Read, Tables, SIZES};

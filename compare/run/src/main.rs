@@ -20,7 +20,7 @@ fn programs() -> [Vec<String>; 4] {
     let own = std::env::current_exe().expect("a program has its path").display().to_string();
     let words = |words: &[&str]| words.iter().map(|word| word.to_string()).collect();
     [
-        words(&["target/bin/plan_run"]),
+        words(&["crates/plan_run/out/plan_run"]),
         words(&[&own, "rust"]),
         words(&["oracle/target/release/oracle-run"]),
         words(&[&own, "nothing"]),
