@@ -18,8 +18,8 @@
 //! # Ok::<(), Box<dyn std::error::Error>>(())
 //! ```
 //!
-//! This is a reading of the file format (docs/FORMAT.md, "The plan file") beside the library's, and it asks for less: a record must be whole, of a known
-//! kind and of a fitting length, and its bytes must name a type, a direction and so on. Whether the records make a plan, the library decides
+//! This is a reading of the file format (docs/FORMAT.md) beside the library's, and it asks for less: a record must be whole, of a known kind and of a
+//! fitting length, and its bytes must name a type, a direction and so on. Whether the records make a plan, the library decides
 //! ([`Plan::new`](crate::Plan::new)). What is read is written back as the same bytes, those of every NaN too.
 
 mod kinds;
