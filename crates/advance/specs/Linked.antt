@@ -1,6 +1,6 @@
 -- The lanes that a branch may go on to are those that the plan's link records of its lane name, in file order.
 use Rattle.std.specs.Prelude.{Bool, cond, false, true, List, [], map, ◌∷◌, refl, ◌≡◌, suc, ℕ, ◌*◌, ◌+◌, ◌-◌, ◌<◌, get_or, length, take}
-use Rattle.std.proofs.Common.{ap₂, arith}
+use Rattle.std.proofs.Common.{subst, sym, ap₂, arith}
 use Rattle.std.proofs.lemmas.List.{length-map}
 use Rattle.plan.specs.Rows.{fan_entry, predecessor_entry, successor_entry}
 use Rattle.plan_format.specs.Plan.{Plan, lane_of, number_of}
@@ -20,7 +20,7 @@ led_to_are links row (t ∷ ts) first h =
     let at : first + suc (length ts) - suc (length ts) ≡ first + 0 = omega arith in
     let end : first + suc (length ts) ≡ suc first + length ts = omega arith in
     let rest = led_to_are links row ts (suc first) (λ k l. let z : suc first + k ≡ first + suc k = omega arith in rw z (h (suc k) (omega arith))) in
-    ap₂ ◌∷◌ (rw at (h 0 (omega arith))) (rw end rest)
+    ap₂ ◌∷◌ (rw at (h 0 (omega arith))) (subst (λ (n : ℕ). led_to links n (length ts) ≡ map row ts) (sym end) rest)
 
 module _ (p : Plan) (i : ℕ) (h : i < length p.lanes) where
   abbrev numbers : List ℕ

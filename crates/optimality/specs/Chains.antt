@@ -58,7 +58,7 @@ module _ (numbers : List ℕ) (lengths : List Float) (links : List Link) where
     pub is_chain_law : ok ≡ true → is_chain links start goal chain ≡ true
     pub cost_is : ok ≡ true → cost ≡ chain_cost chain
     pub least : ok ≡ true → (other : List ℕ) → is_chain links start goal other ≡ true → le cost (chain_cost other) ≡ true
-    -- a list of 257 lanes, as `plan_run` lends, holds it
+    -- a list of 257 lanes, as `plan-run` lends, holds it
     pub fits : ok ≡ true → length chain ≤ 257
     pub refused : ok ≡ false → (other : List ℕ) → is_chain links start goal other ≡ false
 

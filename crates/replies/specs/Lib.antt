@@ -1,4 +1,4 @@
--- What `plan_run` prints of a file, whole and piece by piece, and laws of it.
+-- What `plan-run` prints of a file, whole and piece by piece, and laws of it.
 pub mod Printed
 pub mod Pieces
 pub mod OverPlan

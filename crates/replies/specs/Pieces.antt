@@ -15,7 +15,7 @@ use Rattle.replies.specs.declared.Piece.{Piece}
 
 -- ---- the bytes of a piece
 
--- THE LAW of a call: out[..len], which `plan_run` writes after it, are the bytes of the piece's text
+-- THE LAW of a call: out[..len], which `plan-run` writes after it, are the bytes of the piece's text
 pub written_text : {x : Part} {r : Piece} {old new : List ℕ} → Writes x r old new → room ≤ length old → take r.len new ≡ x.text
 written_text W h = puts_front W.puts (omega (arith, W.puts.after, W.few))
 

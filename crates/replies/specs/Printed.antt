@@ -1,4 +1,4 @@
--- What `plan_run` prints of a file (document 01, "Program plan-run"): its plan line, then the reply to each query in file order; of a refused file
+-- What `plan-run` prints of a file (document 01, "Program plan-run"): its plan line, then the reply to each query in file order; of a refused file
 -- its plan line only. Whole, and as the pieces that the program writes one after the other. Definitions only.
 use Rattle.std.specs.Prelude.{Bool, false, true, List, [], ◌++◌, ◌∷◌, ◌≡◌, ℕ, ◌≤◌, Float, length, replicate}
 use Rattle.std.specs.Float.{binary32, binary64}

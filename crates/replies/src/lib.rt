@@ -1,4 +1,4 @@
-// What `plan_run` prints of a file, piece by piece: the plan line, then the reply to each query in file order. Each query is answered by its public
+// What `plan-run` prints of a file, piece by piece: the plan line, then the reply to each query in file order. Each query is answered by its public
 // call, from the file's bytes, over tables that live for that call alone.
 #![tactic(auto)]
 

@@ -12,31 +12,6 @@ use Rattle.explore.specs.Held.{state_of}
 use Rattle.explore.specs.RunLaws.{none_left, keys_full, some_left, run_none, run_next, run_ended}
 use Rattle.explore.proofs.run.Goals as goal
 
-abbrev invariant-loop : tie.invariant-loop
-invariant-loop lanes n points cumulative fans links sections stations places m ahead todo₀ arcs₀ metres₀ keys₀ placings₀ cases₀ ends₀ q₀ k₀ todo
-    arcs metres keys placings cases ends q k =
-    (k ≤ 1026)
-    × (length todo ≡ length todo₀)
-    × (length arcs ≡ length arcs₀)
-    × (length metres ≡ length metres₀)
-    × (length keys ≡ length keys₀)
-    × (length placings ≡ length placings₀)
-    × (length cases ≡ length cases₀)
-    × (length ends ≡ length ends₀)
-    × (q.flight.todo ≤ q.flight.entered + 2)
-    × (q.flight.entered ≤ 1024)
-    × (q.placed ≤ k)
-    ×
-    (run_from (tables lanes n points cumulative fans links sections stations places m) ahead (1026 - k)
-    (state_of q todo arcs metres keys placings cases ends) ≡ run_from
-    (tables lanes n points cumulative fans links sections stations places m) ahead 1026
-    (state_of q₀ todo₀ arcs₀ metres₀ keys₀ placings₀ cases₀ ends₀))
-
-abbrev decreases-loop : tie.decreases-loop
-decreases-loop lanes n points cumulative fans links sections stations places m ahead todo₀ arcs₀ metres₀ keys₀ placings₀ cases₀ ends₀ q₀ k₀ todo
-    arcs metres keys placings cases ends q k =
-    1026 - k
-
 pub loop-k-init : goal.loop-k-init
 loop-k-init c =
     let pre = c.requires in

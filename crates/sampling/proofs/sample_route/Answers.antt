@@ -54,7 +54,7 @@ returns-then-room-kept c =
     let l = c.loop-k in
     let R = l.invariant.0 in
     let T = route_tables a.lanes.now a.points.now a.cumulative.now a.fans.now a.links.now in
-    routing_stops T a.goal_s a.path.now a.n _ a.out.now a.room l.k l.i l.entry l.auto l.out R c.exit_for-exit.result
+    routing_stops T a.goal_s a.path.now a.n _ a.out.now a.room l.k l.i l.entry l.kept l.out R c.exit_for-exit.result
     _ _ (c.sample_lane-kept.ensures R.points a.out.now R.kept R.written) (get_or a.path.now l.k 0) c.loop-k-test.true refl
     c.exit_for-exit.ensures c.if-room-kept.true
 
@@ -81,7 +81,7 @@ loop-k-preserved c =
     let R = l.invariant.0 in
     let next = get_or a.path.now l.k 0 in
     let T = route_tables a.lanes.now a.points.now a.cumulative.now a.fans.now a.links.now in
-    let R' = routing_next T a.goal_s a.path.now a.n _ a.out.now a.room l.k l.i l.entry l.auto l.out R
+    let R' = routing_next T a.goal_s a.path.now a.n _ a.out.now a.room l.k l.i l.entry l.kept l.out R
     c.exit_for-exit.result
     c.sample_lane-kept.result _ (c.sample_lane-kept.ensures R.points a.out.now R.kept R.written) next c.loop-k-test.true refl
     c.exit_for-exit.ensures
@@ -104,5 +104,5 @@ returns c =
     let l = c.loop-k in
     let R = l.invariant.0 in
     let T = route_tables a.lanes.now a.points.now a.cumulative.now a.fans.now a.links.now in
-    routing_ends T a.goal_s a.path.now a.n _ a.out.now a.room l.k l.i l.entry l.auto l.out R c.exit_at-exit.result
+    routing_ends T a.goal_s a.path.now a.n _ a.out.now a.room l.k l.i l.entry l.kept l.out R c.exit_at-exit.result
     _ _ (c.sample_lane.ensures R.points a.out.now R.kept R.written) c.loop-k-test.false c.exit_at-exit.ensures
