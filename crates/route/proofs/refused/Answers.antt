@@ -1,0 +1,8 @@
+-- A refusal, by computation.
+use mathlib.Core.Path.{refl}
+use Rattle.route.specs.Route.{answer_of}
+use Rattle.route.proofs.refused.Goals as goal
+
+pub returns : goal.returns
+unfolding answer_of
+returns c = refl
