@@ -15,7 +15,7 @@ use Rattle.exact.specs.Ring.{◌:+◌, ◌:-◌, ◌:*◌, ◌:·◌, ◌:=◌, 
 use Rattle.exact.specs.Inequalities.{Within, mul_nonneg, sq_nonneg, sq_mono, root_mono, ≈_⊑, ⊑_≈, ⊑_trans, dot_nonneg, pos→nonneg}
 use Rattle.exact.specs.Inequalities.{cancel_le, sq}
 use Rattle.exact.specs.Values.{U, val}
-use Rattle.exact.specs.Order.{le_yes}
+use Rattle.exact.proofs.Order.{le_yes}
 use Rattle.coords.specs.declared.Point.{Point}
 use Rattle.geometry.specs.declared.Projection.{Projection}
 use Rattle.geometry.specs.Polyline.{point_at}

@@ -13,8 +13,8 @@ use Rattle.exact.specs.Ring.{◌:+◌, ◌:-◌, ◌:*◌, ◌:·◌, ◌:=◌, 
 use Rattle.exact.specs.Inequalities.{Within, abs, mul_mono, mul_nonneg, sq_nonneg, sq_mono, ≈_⊑, ⊑_≈, ⊑_trans, ⊑_refl, within_of_nonneg}
 use Rattle.exact.specs.Inequalities.{pos→nonneg, sq_pos, cancel_le, sq}
 use Rattle.exact.specs.Values.{U, val, F32}
-use Rattle.exact.specs.Arithmetic.{sub_hi, add_lo}
-use Rattle.exact.specs.Steps.{sub_step, add_step}
+use Rattle.exact.proofs.Arithmetic.{sub_hi, add_lo}
+use Rattle.exact.proofs.Steps.{sub_step, add_step}
 use Rattle.float.specs.Choose.{max_of, min_of}
 use Rattle.coords.specs.declared.Point.{Point}
 use Rattle.coords.specs.Coords.{zero⁺}

@@ -14,10 +14,11 @@ use Rattle.exact.specs.Integers.{Z, ◌≈◌, ◌⊑◌, ◌⊞◌, ◌⊟◌, 
 use Rattle.exact.specs.Ring.{◌:*◌, ◌:=◌, ring}
 use Rattle.exact.specs.Inequalities.{Within, abs, within_scale, abs_least, mul_mono, pos→nonneg, lt→⊑, scale_mono, cancel_le}
 use Rattle.exact.specs.Values.{U, U_pos, mag, mag_is, val, F32, U_large, UU_large, U_one, size_of}
-use Rattle.exact.specs.Order.{le_of}
-use Rattle.exact.specs.Monotone.{frac_mono}
-use Rattle.exact.specs.Arithmetic.{size_is, sub_frac, div_frac}
-use Rattle.exact.specs.Steps.{Step, div_step}
+use Rattle.exact.proofs.Order.{le_of}
+use Rattle.exact.proofs.Monotone.{frac_mono}
+use Rattle.exact.proofs.Arithmetic.{size_is, sub_frac, div_frac}
+use Rattle.exact.specs.Steps.{Step}
+use Rattle.exact.proofs.Steps.{div_step}
 use Rattle.float_laws.proofs.Casts.{unsigned_is, unsigned_edges, unsigned_mono}
 use Rattle.grid.proofs.Buckets.{bucket_is}
 use Rattle.grid.specs.Grid.{bucket}

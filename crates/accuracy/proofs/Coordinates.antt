@@ -7,7 +7,8 @@ use lib.Ieee.{Float, nan, inf, fin, binary32, sub, fits, of_bits, is_nan}
 use Rattle.exact.specs.Integers.{Z, ◌≈◌, ◌⊟◌, ⊖, ι, sgn}
 use Rattle.exact.specs.Inequalities.{Within}
 use Rattle.exact.specs.Values.{U, mag, val, F32}
-use Rattle.exact.specs.Steps.{SumStep, sub_step}
+use Rattle.exact.specs.Steps.{SumStep}
+use Rattle.exact.proofs.Steps.{sub_step}
 use Rattle.coords.specs.declared.Point.{Point}
 use Rattle.coords.specs.Coords.{zero⁺, one⁺}
 use Rattle.geometry_laws.specs.Range.{InRange, PointIn, Sized, PointSized}

@@ -10,7 +10,8 @@ use Rattle.exact.specs.Ring.{◌:+◌, ◌:-◌, ◌:*◌, ◌:·◌, ◌:=◌, 
 use Rattle.exact.specs.Inequalities.{Within, abs, within_mul, within_scale, within_up, sq_nonneg, rel_sq, abs_least, within_self}
 use Rattle.exact.specs.Inequalities.{mul_nonneg, ι_nonneg, dot_nonneg}
 use Rattle.exact.specs.Values.{U, val, F32}
-use Rattle.exact.specs.Steps.{SumStep, add_step, sub_step, mul_step}
+use Rattle.exact.specs.Steps.{SumStep}
+use Rattle.exact.proofs.Steps.{add_step, sub_step, mul_step}
 use Rattle.coords.specs.declared.Point.{Point}
 use Rattle.coords.specs.Coords.{sub_of, length_squared}
 use Rattle.accuracy.proofs.Vectors.{from, norm_sq}

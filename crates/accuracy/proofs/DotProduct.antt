@@ -9,7 +9,7 @@ use Rattle.exact.specs.Ring.{◌:+◌, ◌:-◌, ◌:*◌, ◌:·◌, ◌:=◌, 
 use Rattle.exact.specs.Inequalities.{Within, abs, within_abs, abs_least, within_mul, within_scale, within_up, within_add, within_≈}
 use Rattle.exact.specs.Inequalities.{within_nonneg, scale_abs, ≈→⊑}
 use Rattle.exact.specs.Values.{U, val, F32}
-use Rattle.exact.specs.Steps.{add_step, mul_step}
+use Rattle.exact.proofs.Steps.{add_step, mul_step}
 use Rattle.coords.specs.declared.Point.{Point}
 use Rattle.coords.specs.Coords.{sub_of, dot_of}
 use Rattle.accuracy.proofs.Vectors.{from, inner, sum_abs}

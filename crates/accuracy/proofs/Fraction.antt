@@ -12,8 +12,8 @@ use Rattle.exact.specs.Inequalities.{Within, abs, within_abs, abs_least, abs_sq,
 use Rattle.exact.specs.Inequalities.{within_of_nonneg, ι_nonneg, dot_nonneg, sq_nonneg, mul_nonneg, mul_mono, root_mono, ⊑_trans, ≈_⊑, ⊑_≈}
 use Rattle.exact.specs.Inequalities.{≈→⊑, scale_mono, sq}
 use Rattle.exact.specs.Values.{U, val, F32, U_large, U_huge, size_of}
-use Rattle.exact.specs.Arithmetic.{size_is}
-use Rattle.exact.specs.Steps.{div_step}
+use Rattle.exact.proofs.Arithmetic.{size_is}
+use Rattle.exact.proofs.Steps.{div_step}
 use Rattle.coords.specs.declared.Point.{Point}
 use Rattle.coords.specs.Coords.{sub_of, dot_of, length_squared}
 use Rattle.accuracy.proofs.Vectors.{Vec, from, inner, norm_sq, sum_abs, far, residual}

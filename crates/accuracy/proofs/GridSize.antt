@@ -11,9 +11,10 @@ use lib.Ieee.{Float, binary32, sub, div, of_bits, of_int, fits}
 use Rattle.exact.specs.Integers.{Z, ◌≈◌, ◌⊑◌, ◌⊞◌, ◌⊟◌, ◌⊠◌, ◌·◌, ⊖, ι, ≈_refl, ≈_sym, ≈_trans, ⊠_cong, one_times, sgn}
 use Rattle.exact.specs.Inequalities.{Within, abs, within_scale, ι_nonneg, ≈_⊑}
 use Rattle.exact.specs.Values.{U, mag, val, F32, U_large, size_of}
-use Rattle.exact.specs.Monotone.{Frac, lower_bound}
-use Rattle.exact.specs.Arithmetic.{size_is, frac_err}
-use Rattle.exact.specs.Steps.{div_step, frac_ok, size_kept, sign_kept}
+use Rattle.exact.specs.Monotone.{Frac}
+use Rattle.exact.proofs.Monotone.{lower_bound}
+use Rattle.exact.proofs.Arithmetic.{size_is, frac_err}
+use Rattle.exact.proofs.Steps.{div_step, frac_ok, size_kept, sign_kept}
 use Rattle.float.specs.Choose.{max_of}
 use Rattle.coords.specs.Coords.{zero⁺, one⁺}
 use Rattle.grid.specs.declared.Aabb.{Aabb}

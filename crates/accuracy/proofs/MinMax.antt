@@ -5,7 +5,7 @@ use mathlib.Core.Bool.{Bool, true, false, ◌&&◌}
 use lib.Ieee.{Float, eq, of_bits}
 use Rattle.exact.specs.Integers.{◌⊑◌}
 use Rattle.exact.specs.Values.{val, F32}
-use Rattle.exact.specs.Order.{le_yes}
+use Rattle.exact.proofs.Order.{le_yes}
 use Rattle.float.specs.Choose.{zero, max_of, min_of}
 use Rattle.float_laws.specs.Choose.{Least, Greatest}
 use Rattle.float_laws.proofs.Choose.{min_least, max_greatest}

@@ -12,7 +12,7 @@ use Rattle.exact.specs.Inequalities.{Within, abs, abs_least, within_mul, within_
 use Rattle.exact.specs.Inequalities.{triangle, sq_mono, sq_nonneg, mul_nonneg, mul_mono, ⊑_trans, ≈_⊑, ⊑_≈, ≈→⊑, within_of_nonneg}
 use Rattle.exact.specs.Inequalities.{pos→nonneg, sq_pos, cancel_le, sq}
 use Rattle.exact.specs.Values.{U, val, F32, UU_large, U_one}
-use Rattle.exact.specs.Steps.{mul_step, add_step}
+use Rattle.exact.proofs.Steps.{mul_step, add_step}
 use Rattle.coords.specs.declared.Point.{Point}
 use Rattle.geometry.specs.Project.{place_at}
 use Rattle.accuracy.proofs.Vectors.{Vec, from, norm_sq, beyond, far, far_e}

@@ -11,7 +11,7 @@ use lib.Ieee.{Float, nan, inf, fin, lt, eq, is_nan}
 use Rattle.exact.specs.Integers.{◌≈◌, ◌⊑◌, ◌⊞◌, ι}
 use Rattle.exact.specs.Inequalities.{⊑_refl, ⊑_trans, lt→⊑, ≈→⊑}
 use Rattle.exact.specs.Values.{val, F32}
-use Rattle.exact.specs.Order.{lt_yes, lt_no, eq_yes}
+use Rattle.exact.proofs.Order.{lt_yes, lt_no, eq_yes}
 use Rattle.coords.specs.declared.Point.{Point}
 use Rattle.coords.specs.Coords.{sub_of, length_squared}
 use Rattle.geometry.specs.declared.Projection.{Projection}

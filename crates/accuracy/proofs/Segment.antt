@@ -11,9 +11,11 @@ use Rattle.exact.specs.Integers.{Z, ◌≈◌, ◌⊑◌, ◌⊞◌, ◌⊠◌, 
 use Rattle.exact.specs.Ring.{◌:*◌, ◌:=◌, ring}
 use Rattle.exact.specs.Inequalities.{Within, ⊑_or_lt, ≈_⊑, ⊑_≈, lt→⊑, within_scale, within_of_nonneg, scale_mono, sq}
 use Rattle.exact.specs.Values.{U, mag, val, F32, size_of}
-use Rattle.exact.specs.Order.{antisym, lt_no, lt_yes}
-use Rattle.exact.specs.Arithmetic.{size_is, div_hi, div_lo}
-use Rattle.exact.specs.Steps.{Step, div_step}
+use Rattle.exact.specs.Order.{antisym}
+use Rattle.exact.proofs.Order.{lt_no, lt_yes}
+use Rattle.exact.proofs.Arithmetic.{size_is, div_hi, div_lo}
+use Rattle.exact.specs.Steps.{Step}
+use Rattle.exact.proofs.Steps.{div_step}
 use Rattle.float.specs.Choose.{clamp_of}
 use Rattle.float_laws.specs.Choose.{Clamped}
 use Rattle.float_laws.proofs.Choose.{clamp_is}

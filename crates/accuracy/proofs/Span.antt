@@ -12,7 +12,7 @@ use lib.Ieee.{Float, nan, inf, fin, lt}
 use Rattle.exact.specs.Integers.{◌⊑◌, ◌⊞◌, ι}
 use Rattle.exact.specs.Inequalities.{⊑_refl, ⊑_trans, lt→⊑}
 use Rattle.exact.specs.Values.{val, F32}
-use Rattle.exact.specs.Order.{lt_yes, lt_no}
+use Rattle.exact.proofs.Order.{lt_yes, lt_no}
 use Rattle.coords.specs.declared.Point.{Point}
 use Rattle.coords.specs.Coords.{zero⁺, sub_of, length_squared}
 use Rattle.geometry.specs.declared.Nearer.{Nearer}

@@ -9,7 +9,7 @@ use Rattle.exact.specs.Ring.{◌:*◌, ◌:·◌, ◌:=◌, ring}
 use Rattle.exact.specs.Inequalities.{Within, abs, within_mul, within_self, within_of_nonneg, abs_least, mul_mono, mul_nonneg, sq_nonneg}
 use Rattle.exact.specs.Inequalities.{sq_mono, ι_nonneg, ≈_⊑, ⊑_≈, pos→nonneg, cancel_le, sq}
 use Rattle.exact.specs.Values.{U, val, F32, UU_large, U_one}
-use Rattle.exact.specs.Steps.{mul_step}
+use Rattle.exact.proofs.Steps.{mul_step}
 use Rattle.grid.specs.Grid.{of_whole}
 use Rattle.accuracy.proofs.Distance.{Dist}
 use Rattle.accuracy.proofs.Cells.{CellSize, cell_pos}

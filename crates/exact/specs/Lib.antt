@@ -32,8 +32,6 @@ pub mod Values
 pub mod Order
 -- rounding keeps the order
 pub mod Monotone
--- the operations as rounded fractions, their bounds and errors
-pub mod Arithmetic
 -- the facts of one rounded operation in one record
 pub mod Steps
 -- sums that stop growing: costs and lengths

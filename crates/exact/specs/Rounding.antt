@@ -19,7 +19,7 @@ pub record Near (q u n : ℕ) : Type 0 where
   pub tie_under : n * 2 ≡ q * u * 2 + u → q % 2 ≡ 0
   pub tie_over : q * u * 2 ≡ n * 2 + u → q % 2 ≡ 0
 
-near : (w r u n : ℕ) (o : Ordering) → w * u + r ≡ n → r < u → Cmp o (r * 2) u → Near (nearest w o) u n
+pub near : (w r u n : ℕ) (o : Ordering) → w * u + r ≡ n → r < u → Cmp o (r * 2) u → Near (nearest w o) u n
 near w r u n Ordering.lt e h c =
     record { under = omega arith; over = omega arith; tie_under = λ t. absurd (no₁ t); tie_over = λ t. absurd (no₂ t) }
   where
@@ -97,37 +97,18 @@ pub record Err (g den n slack : ℕ) : Type 0 where
   pub under : 16777216 * n ≤ 16777216 * (g * den) + n + slack
 
 -- the two cases, as arithmetic: q is the kept number, t = 2 ^ k
-dropped : (q t den n : ℕ) → Near q (den * t) n → 8388608 * t * den ≤ n → Err (q * t) den n 0
+pub dropped : (q t den n : ℕ) → Near q (den * t) n → 8388608 * t * den ≤ n → Err (q * t) den n 0
 dropped q t den n h k = record { over = omega arith; under = omega arith }
 
-none_dropped : (q den n : ℕ) → Near q (den * 1) n → Err (q * 1) den n (8388608 * den)
+pub none_dropped : (q den n : ℕ) → Near q (den * 1) n → Err (q * 1) den n (8388608 * den)
 none_dropped q den n h = record { over = omega arith; under = omega arith }
 
 -- a whole number of units stays: q ≠ w would be an error of a whole den
-same : (q w den : ℕ) → 0 < den → Near q (den * 1) (w * den) → q ≡ w
+pub same : (q w den : ℕ) → 0 < den → Near q (den * 1) (w * den) → q ≡ w
 same q w den D h = omega (arith, not_less q w (omega arith), not_less w q (omega arith))
   where
     not_less : (q w : ℕ) → w * den * 2 ≤ q * den * 2 + den → ¬ (q < w)
     not_less q w h l = omega (arith, mul-le-mul_right den l)
 
-looser : (g den n slack : ℕ) → Err g den n 0 → Err g den n slack
+pub looser : (g den n slack : ℕ) → Err g den n 0 → Err g den n slack
 looser g den n slack h = record { over = omega arith; under = omega arith }
-
-pub round_err : (n den : ℕ) → 0 < den → Err (kept 24 n den * 2 ^ drop 24 n den) den n (8388608 * den)
-round_err n den D = let x = kept_is 24 n den (omega arith) D in go (kept 24 n den) (drop 24 n den) x.near x.large
-  where
-    go : (q k : ℕ) → Near q (den * 2 ^ k) n → (0 < k → 8388608 * 2 ^ k * den ≤ n) → Err (q * 2 ^ k) den n (8388608 * den)
-    go q zero h b = none_dropped q den n h
-    go q (suc k) h b = looser (q * 2 ^ suc k) den n (8388608 * den) (dropped q (2 ^ suc k) den n h (b (omega arith)))
-
--- n = w * den
-pub round_err_whole : (w den : ℕ) → 0 < den → Err (kept 24 (w * den) den * 2 ^ drop 24 (w * den) den) den (w * den) 0
-round_err_whole w den D =
-    let x = kept_is 24 (w * den) den (omega arith) D in go (kept 24 (w * den) den) (drop 24 (w * den) den) x.near x.large
-  where
-    whole : Err (w * 1) den (w * den) 0
-    whole = record { over = omega arith; under = omega arith }
-
-    go : (q k : ℕ) → Near q (den * 2 ^ k) (w * den) → (0 < k → 8388608 * 2 ^ k * den ≤ w * den) → Err (q * 2 ^ k) den (w * den) 0
-    go q zero h b = subst (λ (x : ℕ). Err (x * 1) den (w * den) 0) (sym (same q w den D h)) whole
-    go q (suc k) h b = dropped q (2 ^ suc k) den (w * den) h (b (omega arith))

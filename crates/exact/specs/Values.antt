@@ -1,6 +1,6 @@
 -- The exact value of a finite f32, an integer number of units of 2 ^ -149 (`val`), and that of what `round` makes.
 use Rattle.std.specs.Prelude.{◌≡◌, refl, ℕ, suc, ◌+◌, ◌-◌, ◌*◌, ◌^◌, ◌≤◌, ◌<◌, Bool, true, false, cond, ℤ, pos, negsuc, T, ltb, Float}
-use Rattle.std.proofs.Common.{sym, ap₂, ◌∙◌, subst, lt_of_lt_of_le, le_of_eq, lt_of_not-le, mul_right_comm, mul-le-mul_right, mul-lt-mul_of_pos_right, le_of_mul-le-mul_right, arith, ltb→lt, lit≤, pow_pos}
+use Rattle.std.proofs.Common.{sym, ap₂, ◌∙◌, subst, lt_of_not-le, mul-le-mul_right, arith, ltb→lt, lit≤, pow_pos}
 use Rattle.std.proofs.Math.Nat.{eq_of_mul-eq-mul_right}
 use Rattle.std.specs.Float.{nan, inf, fin, binary32}
 use Rattle.std.specs.Float.Ieee.{prec, low, up, down, odd, units, round, neg, fits}
@@ -10,7 +10,6 @@ use Rattle.std.specs.Float.Ieee.Scale.{grid, overflow, finite}
 use Rattle.std.specs.Float.Ieee.Exact.{HasValue, units_val}
 use Rattle.exact.specs.Integers.{Z, ◌⊑◌, ⊖, ι, sgn}
 use Rattle.exact.specs.Fits.{count, count_value}
-use Rattle.exact.specs.Rounding.{Err, round_err, round_err_whole}
 
 -- ---- the value
 -- 2 ^ 149 units are 1. It stays shut: `omega` does not read numerals of 40 digits
@@ -157,42 +156,13 @@ pub record Rounded (x : Float) (s : Bool) (w c slack : ℕ) : Type 0 where
   pub over : 16777216 * (g * c) ≤ 16777216 * w + w + slack
   pub under : 16777216 * w ≤ 16777216 * (g * c) + w + slack
 
-at_U : (num : ℕ) → num * 2 ^ 149 ≡ num * U
+pub at_U : (num : ℕ) → num * 2 ^ 149 ≡ num * U
 unfolding U
 at_U num = refl
 
--- any fraction
-pub rounded : (s : Bool) (num den : ℕ) → 0 < den → T (finite (round binary32 s num den))
-    → Rounded (round binary32 s num den) s (num * U) den (8388608 * den)
-rounded s num den D t =
-    let x = subst (λ (n : ℕ). Err (grid binary32 num den) den n (8388608 * den)) (at_U num) (round_err (num * 2 ^ 149) den D) in
-    record { g = grid binary32 num den; is = round_val s num den t; over = x.over; under = x.under }
-
--- a whole number w of units
-pub rounded_whole : (s : Bool) (num den w : ℕ) → 0 < den → num * U ≡ w * den → T (finite (round binary32 s num den))
-    → Rounded (round binary32 s num den) s w 1 0
-rounded_whole s num den w D e t =
-    let g = grid binary32 num den in
-    let x : Err g den (w * den) 0 = subst (λ (n : ℕ). Err (kept 24 n den * 2 ^ drop 24 n den) den (w * den) 0) (sym (at_U num ∙ e))
-    (round_err_whole w den D) in
-    record {
-      g = g;
-      is = round_val s num den t;
-      over = le_of_mul-le-mul_right {k = den} (omega (arith, x)) D;
-      under = le_of_mul-le-mul_right {k = den} (omega (arith, x)) D;
-    }
-
 -- ---- a fraction below 2 ^ 127 does not overflow. Q = 2 ^ 276, which `omega` does not read
-no_overflow : (g den n Q : ℕ) → 0 < den → 0 < Q → n < Q * den → 16777216 * (g * den) ≤ 16777216 * n + n + 8388608 * den → g < 2 * Q
+pub no_overflow : (g den n Q : ℕ) → 0 < den → 0 < Q → n < Q * den → 16777216 * (g * den) ≤ 16777216 * n + n + 8388608 * den → g < 2 * Q
 no_overflow g den n Q D P h k = lt_of_not-le (λ (l : 2 * Q ≤ g). clash l (mul-le-mul_right den l) (mul-le-mul_right den P))
   where
     clash : 2 * Q ≤ g → 2 * Q * den ≤ g * den → 1 * den ≤ Q * den → ⊥
     clash l m o = omega arith
-
-pub round_finite : (s : Bool) (num den : ℕ) → 0 < den → num < 2 ^ 127 * den → T (finite (round binary32 s num den))
-round_finite s num den D h =
-    let n = num * 2 ^ 149 in
-    let l : n < 2 ^ 276 * den = lt_of_lt_of_le (mul-lt-mul_of_pos_right h (pow_pos 149))
-    (le_of_eq (mul_right_comm (2 ^ 127) den (2 ^ 149))) in
-    finite_of_value (round binary32 s num den) s (grid binary32 num den) U
-    (round_value s num den (no_overflow (grid binary32 num den) den n (2 ^ 276) D (pow_pos 276) l (round_err n den D).over))

@@ -16,8 +16,8 @@ use Rattle.exact.specs.Integers.{Z, ◌≈◌, ≈_sym, ◌⊑◌, ⊖, ι, ◌�
 use Rattle.exact.specs.Inequalities.{Within, ⊑_trans, mul_nonneg, within_mul, within_up, within_of_nonneg, ⊑_≈, ≈_⊑}
 use Rattle.exact.specs.Values.{U, mag, val, size_of, val_of, finite_of_value, F32}
 use Rattle.exact.specs.Sums.{UpTo, up_to}
-use Rattle.exact.specs.Order.{lt_no}
-use Rattle.exact.specs.Steps.{add_step, mul_step}
+use Rattle.exact.proofs.Order.{lt_no}
+use Rattle.exact.proofs.Steps.{add_step, mul_step}
 use Rattle.float.specs.Choose.{clamp_of}
 use Rattle.coords.specs.declared.Point.{Point}
 use Rattle.coords.specs.declared.Vector.{Vector}

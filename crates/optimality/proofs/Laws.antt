@@ -4,7 +4,8 @@ use mathlib.Core.Path.{refl, ◌≡◌}
 use Prim.Native.Nat.{ℕ, ◌<◌, ◌≤◌}
 use lib.Dec.{ltb}
 use lib.Ieee.{of_bits}
-use Rattle.exact.specs.Sums.{add_cost, add_finite, add_grows, add_mono_left, add_mono_right, cost_lt, cost_most, cost_unique, link_cost}
+use Rattle.exact.specs.Sums.{cost_lt, cost_most, cost_unique, link_cost}
+use Rattle.exact.proofs.Sums.{add_cost, add_finite, add_grows, add_mono_left, add_mono_right}
 use Rattle.exact.specs.Sums.{link_cost_finite, zero_size, zero_up_to}
 use Rattle.exact.specs.Sums as sums
 use Rattle.exact.specs.Values.{size_of}

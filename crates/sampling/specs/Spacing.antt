@@ -15,7 +15,8 @@ use Rattle.coords.specs.Coords.{one⁺}
 use Rattle.exact.specs.Fits.{Representable, count, count_value, representable}
 use Rattle.exact.specs.Fractions.{div_values}
 use Rattle.exact.specs.Naturals.{lt_or_le}
-use Rattle.exact.specs.Values.{F32, round_finite}
+use Rattle.exact.specs.Values.{F32}
+use Rattle.exact.proofs.Values.{round_finite}
 use Rattle.float.specs.Choose.{max_of}
 use Rattle.float.specs.Sign.{abs_of, is_negative}
 use Rattle.float.specs.Whole.{ceil_of, den, num}

@@ -343,20 +343,6 @@ settled_expanded G u s Z l = rw (get_d_any s.dist u nan (inf false) (omega (arit
 -- ---- `lane_path`
 module _ (lanes : List ℕ) (G : LaneGraph) (start goal : ℕ) (s₀ : Search) (e : Ended)
     (first : state_of s₀ ≡ expanded_in G start (of_bits binary32 0) (blank f32_costs 256)) (F : Found lanes G goal s₀ e) where
-  searched_is : (ok : Bool) → e.ok ≡ ok → outcome lanes G goal ok start (state_of e.search) ≡ searched_in lanes G start goal
+  pub searched_is : (ok : Bool) → e.ok ≡ ok → outcome lanes G goal ok start (state_of e.search) ≡ searched_in lanes G start goal
   unfolding searched
   searched_is ok q = ap (λ (b : Bool). outcome lanes G goal b start (state_of e.search)) (sym q) ∙ (rw first at (F.is start))
-
-  pub answer_refused : e.ok ≡ false → answer_of refused ≡ answer_of (searched_in lanes G start goal)
-  answer_refused q = ap answer_of (searched_is false q)
-
-  -- the chain stands at the end of `path` before it is moved to the front
-  pub answer_found : e.ok ≡ true → goal < 256 → (at : ℕ) (path : List ℕ) → Rebuilt e.search.prev start goal at path
-      → answer true (get_or e.search.dist goal nan) (257 - at) (front path at (257 - at)) ≡ answer_of (searched_in lanes G start goal)
-  unfolding answer_of
-  answer_found q l at path R =
-      let chain = rebuild 256 e.search.prev start goal (goal ∷ []) in
-      let n : length chain ≡ 257 - at = ap length (sym R.is) ∙ simp length-drop (omega (arith, R.long, R.most)) in
-      let whole : take (257 - at) (drop at path) ≡ chain = ap (take (257 - at)) R.is ∙ take_all (257 - at) chain (omega arith) in
-      let cost = get_d_any e.search.dist goal nan (inf false) (omega (arith, F.sized.dist)) in
-      rw (whole, cost, ← n) (ap answer_of (searched_is true q))

@@ -8,7 +8,7 @@ use native.Mathlib.Omega.{arith}
 use lib.Ieee.{binary32, nan, of_bits}
 use lib.ListN.{get_or}
 use Rattle.search.specs.LaneGraph.{LaneGraph, answer, expanded_in, lane_graph}
-use Rattle.search.specs.Loops.{answer_found, answer_refused}
+use Rattle.search.proofs.Found.{answer_found, answer_refused}
 use Rattle.search.proofs.lane_path.Goals as goal
 
 pub returns-then-not-e : goal.returns-then-not-e

@@ -11,8 +11,10 @@ use Rattle.std.specs.Float.Ieee.Scale.{finite}
 use Rattle.exact.specs.Integers.{Z, ◌≈◌, ◌⊑◌, ◌⊞◌, ◌⊟◌, ◌⊠◌, ◌·◌, ⊖, ι, sgn, ≈_sym, one_times, ι_sgn, sgn_mul}
 use Rattle.exact.specs.Inequalities.{⊑_refl, ⊑_≈, ≈_⊑, Within, abs, within_abs}
 use Rattle.exact.specs.Fractions.{add_units, mul_values, div_values}
-use Rattle.exact.specs.Values.{U, U_pos, val, size_of, F32, units_of_law, at_units, val_neg, neg_ok, rounded, rounded_whole}
-use Rattle.exact.specs.Monotone.{Frac, upper_bound, lower_bound}
+use Rattle.exact.specs.Values.{U, U_pos, val, size_of, F32, units_of_law, at_units, val_neg, neg_ok}
+use Rattle.exact.proofs.Values.{rounded, rounded_whole}
+use Rattle.exact.specs.Monotone.{Frac}
+use Rattle.exact.proofs.Monotone.{upper_bound, lower_bound}
 
 -- ---- add: the signed sizes a and b
 like : (s : Bool) (a b : ℕ) → sgn s a ⊞ sgn s b ≈ sgn s (a + b)
