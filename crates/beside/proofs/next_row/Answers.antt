@@ -27,12 +27,11 @@ loop-k-preserved c =
     let l = c.loop-k in
     let is = sym c.is_nearer.ensures in
     let law = next_nearer a.places.now a.m a.j a.here a.larger l.best l.k l.invariant.1 in
-    let law2 = next_same a.places.now a.m a.j a.here a.larger l.best l.k l.invariant.1 in
-    (
+    let law2 = next_same a.places.now a.m a.j a.here a.larger l.best l.k l.invariant.1 in (
       omega arith,
       elim c.if-is_nearer.branch [
-        then-is_nearer w ↦ w.best-is ∙ law (is ∙ w.if-is_nearer.true)
-      | else-is_nearer w ↦ w.best-is ∙ law2 (is ∙ w.if-is_nearer.false)
+        | then-is_nearer w ↦ w.best-is ∙ law (is ∙ w.if-is_nearer.true)
+        | else-is_nearer w ↦ w.best-is ∙ law2 (is ∙ w.if-is_nearer.false)
       ],
     )
 

@@ -22,13 +22,12 @@ returns-in_default-to c =
     (refuses 10 _ a.chain.now a.waypoints.now c.refused-in_default-to.ensures)
 
 pub find_and_follow-requires : goal.find_and_follow-requires
-find_and_follow-requires c =
-    (
-      row_of _ c.args.from _ _ _ _ c.requires.0 c.in-Found-to.is,
-      row_of _ c.args.to _ _ _ _ c.requires.1
-          c.in-Found-to.is,
-      c.requires.2,
-    )
+find_and_follow-requires c = (
+  row_of _ c.args.from _ _ _ _ c.requires.0 c.in-Found-to.is,
+  row_of _ c.args.to _ _ _ _ c.requires.1
+      c.in-Found-to.is,
+  c.requires.2,
+)
 
 pub returns : goal.returns
 returns c =

@@ -46,14 +46,13 @@ pub loop-k-smaller : goal.loop-k-smaller
 loop-k-smaller c = omega (arith, c.loop-k-test.true)
 
 pub loop-k-preserved : goal.loop-k-preserved
-loop-k-preserved c =
-    (
-      omega (arith, c.loop-k-test.true),
-      simp length-set c.loop-k.invariant.1,
-      chain_next c.args.lanes.now c.args.path.now
-          c.args.chain.now c.loop-k.chain c.loop-k.k c.loop-k-test.true (omega (arith, c.loop-k-test.true, c.requires.2))
-          c.loop-k.invariant.2,
-    )
+loop-k-preserved c = (
+  omega (arith, c.loop-k-test.true),
+  simp length-set c.loop-k.invariant.1,
+  chain_next c.args.lanes.now c.args.path.now
+      c.args.chain.now c.loop-k.chain c.loop-k.k c.loop-k-test.true (omega (arith, c.loop-k-test.true, c.requires.2))
+      c.loop-k.invariant.2,
+)
 
 pub returns : goal.returns
 returns c =

@@ -31,14 +31,13 @@ pub loop-i-smaller : goal.loop-i-smaller
 loop-i-smaller c = omega (arith, c.loop-i-test.true)
 
 pub loop-i-preserved : goal.loop-i-preserved
-loop-i-preserved c =
-    (
-      omega (arith, c.loop-i-test.true),
-      simp length-set c.loop-i.invariant.1,
-      lengths_next c.args.lanes.now c.args.cumulative.now
-          c.args.lengths.now c.loop-i.lengths c.loop-i.i c.lane_length.result (omega (arith, c.loop-i-test.true, c.requires.1))
-          c.loop-i.invariant.2 c.lane_length.ensures,
-    )
+loop-i-preserved c = (
+  omega (arith, c.loop-i-test.true),
+  simp length-set c.loop-i.invariant.1,
+  lengths_next c.args.lanes.now c.args.cumulative.now
+      c.args.lengths.now c.loop-i.lengths c.loop-i.i c.lane_length.result (omega (arith, c.loop-i-test.true, c.requires.1))
+      c.loop-i.invariant.2 c.lane_length.ensures,
+)
 
 pub returns : goal.returns
 returns c =

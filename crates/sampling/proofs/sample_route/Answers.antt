@@ -36,13 +36,12 @@ pub bounds-path-k : goal.bounds-path-k
 bounds-path-k c = omega (arith, c.loop-k-test.true)
 
 pub exit_for-exit-requires : goal.exit_for-exit-requires
-exit_for-exit-requires c =
-    (
-      c.requires.1 _ c.loop-k.invariant.0.lane,
-      c.requires.1 _ (c.requires.0.each c.loop-k.k c.loop-k-test.true),
-      c.requires.2 _
-          c.loop-k.invariant.0.lane,
-    )
+exit_for-exit-requires c = (
+  c.requires.1 _ c.loop-k.invariant.0.lane,
+  c.requires.1 _ (c.requires.0.each c.loop-k.k c.loop-k-test.true),
+  c.requires.2 _
+      c.loop-k.invariant.0.lane,
+)
 
 pub sample_lane-kept-requires : goal.sample_lane-kept-requires
 sample_lane-kept-requires c =

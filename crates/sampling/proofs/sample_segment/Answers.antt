@@ -31,14 +31,13 @@ returns-then-abs c =
     c.requires.2
 
 pub loop-k-init : goal.loop-k-init
-loop-k-init c =
-    (
-      omega arith,
-      c.requires.2,
-      λ qs old e f. sampling_starts (point_along c.args.points.now c.args.cumulative.now) c.args.entry
-          (sub binary32 c.args.exit c.args.entry) c.steps_of-steps.result qs old _ _ e f,
-      refl,
-    )
+loop-k-init c = (
+  omega arith,
+  c.requires.2,
+  λ qs old e f. sampling_starts (point_along c.args.points.now c.args.cumulative.now) c.args.entry
+      (sub binary32 c.args.exit c.args.entry) c.steps_of-steps.result qs old _ _ e f,
+  refl,
+)
 
 pub sample-all-requires : goal.sample-all-requires
 sample-all-requires c =
@@ -62,19 +61,18 @@ pub loop-k-smaller : goal.loop-k-smaller
 loop-k-smaller c = omega (arith, c.loop-k-test.true)
 
 pub loop-k-preserved : goal.loop-k-preserved
-loop-k-preserved c =
-    (
-      omega (arith, c.loop-k-test.true),
-      omega (arith, c.if-room-all.false),
-      λ qs old e f.
-          let a = c.args in
-          let l = c.loop-k in
-          let point = point_along a.points.now a.cumulative.now in
-          sampling_next point a.entry (sub binary32 a.exit a.entry) c.steps_of-steps.result l.k _ old _ _ _ _ (l.invariant.2 qs old e f)
-          c.sample-all.ensures.0 c.sample-all.ensures.1 c.loop-k-test.true,
-      ap length c.sample-all.ensures.1 ∙ length_putting
-          c.loop-k.all _ c.loop-k.out ∙ c.loop-k.invariant.3,
-    )
+loop-k-preserved c = (
+  omega (arith, c.loop-k-test.true),
+  omega (arith, c.if-room-all.false),
+  λ qs old e f.
+      let a = c.args in
+      let l = c.loop-k in
+      let point = point_along a.points.now a.cumulative.now in
+      sampling_next point a.entry (sub binary32 a.exit a.entry) c.steps_of-steps.result l.k _ old _ _ _ _ (l.invariant.2 qs old e f)
+      c.sample-all.ensures.0 c.sample-all.ensures.1 c.loop-k-test.true,
+  ap length c.sample-all.ensures.1 ∙ length_putting
+      c.loop-k.all _ c.loop-k.out ∙ c.loop-k.invariant.3,
+)
 
 pub sample-requires : goal.sample-requires
 sample-requires c =

@@ -30,9 +30,9 @@ loop-i-preserved c =
     let l : o.i < 256 = omega arith in (
       omega arith,
       elim i.branch [
-        then-is_before w ↦ scan_takes a.lanes.now a.search Z o.i o.best o.cost o.number S l b.result b.ensures
+        | then-is_before w ↦ scan_takes a.lanes.now a.search Z o.i o.best o.cost o.number S l b.result b.ensures
             w.if-is_before.true i.best i.cost i.number w.best-is w.cost-is w.number-is
-      | else-is_before w ↦ scan_skips a.lanes.now a.search Z o.i o.best o.cost o.number S l b.result b.ensures
+        | else-is_before w ↦ scan_skips a.lanes.now a.search Z o.i o.best o.cost o.number S l b.result b.ensures
             w.if-is_before.false i.best i.cost i.number w.best-is w.cost-is w.number-is
       ],
     )

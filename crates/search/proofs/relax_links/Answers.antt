@@ -44,8 +44,8 @@ loop-at-preserved c =
     let takes = relaxing_takes X a.search o.s o.at o.invariant in
     let skips = relaxing_skips X a.search o.s o.at o.invariant under in
     elim c.if-next-count.branch [
-      then-next-count w ↦ subst Kept (sym w.s-is) (takes w.relax-s.result under w.if-next-count.true w.relax-s.ensures.0 w.relax-s.ensures.1)
-    | else-next-count w ↦ subst Kept (sym w.s-is) (skips w.if-next-count.false)
+      | then-next-count w ↦ subst Kept (sym w.s-is) (takes w.relax-s.result under w.if-next-count.true w.relax-s.ensures.0 w.relax-s.ensures.1)
+      | else-next-count w ↦ subst Kept (sym w.s-is) (skips w.if-next-count.false)
     ]
 
 pub returns : goal.returns
