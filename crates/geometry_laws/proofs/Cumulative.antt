@@ -11,8 +11,8 @@ use lib.ListN.{length, get_or}
 use lib.Ieee.{Float, nan, fin, le, of_bits}
 use lib.Ieee.Order.{le_of_values}
 use Rattle.exact.specs.Values.{U, U_pos, size_of}
-use Rattle.exact.specs.Sums.{UpTo, zero_up_to, Piece, Long, long_link, LinkCost, sum_grows}
-use Rattle.exact.proofs.Sums.{long_more}
+use Rattle.exact.specs.Sums.{UpTo, zero_up_to, Piece, Long, long_link, LinkCost}
+use Rattle.exact.proofs.Sums.{long_more, sum_grows}
 use Rattle.coords.specs.Coords.{zero⁺}
 use Rattle.geometry.specs.Polyline.{point_at, segment_length, arc_at, cumulative_of, arc_length}
 use Rattle.geometry.specs.PolylineLaws.{cumulative_at, length_cumulative}

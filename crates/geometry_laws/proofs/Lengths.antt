@@ -19,7 +19,8 @@ use Rattle.exact.specs.Fractions.{mul_values}
 use Rattle.exact.specs.Values.{U, U_pos, mag, val, size_of, F32, units_of_law, val_of, round_value, round_under}
 use Rattle.exact.proofs.Order.{le_yes}
 use Rattle.exact.proofs.Steps.{mul_step, sub_step, within_both}
-use Rattle.exact.specs.Sums.{UpTo, up_to, sum_bounded, Piece}
+use Rattle.exact.proofs.Sums.{sum_bounded}
+use Rattle.exact.specs.Sums.{UpTo, up_to, Piece}
 use Rattle.float.specs.Root.{sqrt_of, sqrt_in}
 use Rattle.float_laws.specs.Nearest.{Units}
 use Rattle.float_laws.specs.Root.{Closest}
