@@ -11,19 +11,19 @@ returns-in_default c =
     let a = c.args in
     let T = route_tables a.lanes.now a.points.now a.cumulative.now a.fans.now a.links.now in
     routes_as (refusal 10) _ _ a.chain.now _ a.waypoints.now _ (from_none T a.n (length a.chain.now) (length a.waypoints.now)
-    a.from a.to c.enum_told-1.given.1) (refuses 10 _ a.chain.now a.waypoints.now c.refused.ensures)
+    a.from a.to c.in_default.is) (refuses 10 _ a.chain.now a.waypoints.now c.refused.ensures)
 
 pub returns-in_default-to : goal.returns-in_default-to
 returns-in_default-to c =
     let a = c.args in
     let T = route_tables a.lanes.now a.points.now a.cumulative.now a.fans.now a.links.now in
     routes_as (refusal 10) _ _ a.chain.now _ a.waypoints.now _ (to_none T a.n (length a.chain.now) (length a.waypoints.now)
-    a.from a.to _ _ _ _ c.in-Found.is c.in-Found.is)
+    a.from a.to _ _ _ _ c.in-Found.is c.in_default-to.is)
     (refuses 10 _ a.chain.now a.waypoints.now c.refused-in_default-to.ensures)
 
 pub find_and_follow-requires : goal.find_and_follow-requires
 find_and_follow-requires c = (
-  row_of _ c.args.from _ _ _ _ c.requires.0 c.in-Found-to.is,
+  row_of _ c.args.from _ _ _ _ c.requires.0 c.in-Found.is,
   row_of _ c.args.to _ _ _ _ c.requires.1
       c.in-Found-to.is,
   c.requires.2,
@@ -34,4 +34,4 @@ returns c =
     let a = c.args in
     let T = route_tables a.lanes.now a.points.now a.cumulative.now a.fans.now a.links.now in
     routes_as _ _ _ a.chain.now _ a.waypoints.now _ (both_found T a.n (length a.chain.now) (length a.waypoints.now) a.from
-    a.to _ _ _ _ c.in-Found-to.is _ _ _ _ c.in-Found-to.is) c.find_and_follow.ensures
+    a.to _ _ _ _ c.in-Found.is _ _ _ _ c.in-Found-to.is) c.find_and_follow.ensures

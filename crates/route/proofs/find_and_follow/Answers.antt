@@ -23,19 +23,19 @@ returns-then-not-a c =
     let T = route_tables a.lanes.now a.points.now a.cumulative.now a.fans.now a.links.now in
     let G = graph_of T a.n in
     let X = path_of a.lanes.now G a.start a.s a.goal a.t in
-    let e = path_none c.lane_path-a.result X c.lane_path-a.ensures (c.if-not-a.true) in
+    let e = path_none c.lane_path-a.result X c.lane_path-a.ensures ((not-true _ c.if-not-a.true)) in
     routes_as (refusal 11) _ _ a.chain.now _ a.waypoints.now _ (path_refused T a.n (length a.chain.now) (length a.waypoints.now)
     a.s a.t X e) (refuses 11 _ a.chain.now a.waypoints.now c.refused.ensures)
 
 pub slice_bounds-path-end : goal.slice_bounds-path-end
 slice_bounds-path-end c =
     (path_found _ _ _ (path_rows _ _ _ _ _ c.requires.0 c.requires.1) c.lane_path-a.ensures
-    (c.if-not-a.false)).within
+    ((not-false _ c.if-not-a.false))).within
 
 pub slice_bounds-follow-end : goal.slice_bounds-follow-end
 slice_bounds-follow-end c =
     sym (length-take-le _ _ (path_found _ _ _ (path_rows _ _ _ _ _ c.requires.0 c.requires.1) c.lane_path-a.ensures
-    (c.if-not-a.false)).within)
+    ((not-false _ c.if-not-a.false))).within)
 
 pub follow-requires : goal.follow-requires
 follow-requires c =
@@ -44,7 +44,7 @@ follow-requires c =
     let G = graph_of T a.n in
     let X = path_of a.lanes.now G a.start a.s a.goal a.t in
     let F = path_found c.lane_path-a.result X a.n (path_rows (suffices a.lanes.now a.start a.s a.goal a.t) a.lanes.now G
-    a.start a.goal c.requires.0 c.requires.1) c.lane_path-a.ensures (c.if-not-a.false) in
+    a.start a.goal c.requires.0 c.requires.1) c.lane_path-a.ensures ((not-false _ c.if-not-a.false)) in
     (F.rows, c.requires.2)
 
 pub returns : goal.returns
@@ -55,7 +55,7 @@ returns c =
     let X = path_of a.lanes.now G a.start a.s a.goal a.t in
     let r = c.lane_path-a.result in
     let F = path_found r X a.n (path_rows (suffices a.lanes.now a.start a.s a.goal a.t) a.lanes.now G a.start a.goal
-    c.requires.0 c.requires.1) c.lane_path-a.ensures (c.if-not-a.false) in
+    c.requires.0 c.requires.1) c.lane_path-a.ensures ((not-false _ c.if-not-a.false)) in
     routes_as (fitted (length a.chain.now) (length a.waypoints.now) (followed T a.s a.t
     (found (take r.count r.path) r.cost))) _ _ a.chain.now _ a.waypoints.now _
     (path_taken T a.n (length a.chain.now) (length a.waypoints.now) a.s a.t r.cost (take r.count r.path) X F.is)
