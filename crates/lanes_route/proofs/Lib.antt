@@ -1,3 +1,3 @@
 -- What the public call rests on.
 -- the tables of an accepted file
-pub mod Route
+pub mod Fronts

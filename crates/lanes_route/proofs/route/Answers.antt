@@ -6,7 +6,7 @@ use Rattle.plan_format.specs.Laws.{Bytes}
 use Rattle.plan_format.specs.Plan.{Decoded}
 use Rattle.route.specs.declared.RouteAnswer.{RouteAnswer}
 use Rattle.calling.specs.Calling.{calls_refused, point}
-use Rattle.lanes_route.proofs.Route.{route_calls, route_fronts}
+use Rattle.lanes_route.proofs.Fronts.{route_calls, route_fronts}
 use Rattle.lanes_route.specs.Route.{lists_of, route_of}
 use Rattle.lanes_route.proofs.route.Goals as goal
 
