@@ -3,3 +3,4 @@ pub mod LaneTables
 pub mod Lines
 pub mod Kept
 pub mod Opening
+pub mod Cases
