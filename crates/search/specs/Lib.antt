@@ -2,3 +2,4 @@
 pub mod Search
 pub mod LaneGraph
 pub mod Loops
+pub mod Cases
