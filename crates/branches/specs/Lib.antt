@@ -9,3 +9,4 @@ pub mod Rows
 pub mod HeldLaws
 pub mod BranchLaws
 pub mod FrontLaws
+pub mod Cases
