@@ -3,3 +3,4 @@ pub mod Kept
 pub mod Sampling
 pub mod Spacing
 pub mod Passes
+pub mod Cases
