@@ -15,6 +15,8 @@ use Rattle.geometry.specs.Polyline.{point_at, vector_at, arc_at, cumulative_of, 
 use Rattle.geometry.specs.Partition.{leading}
 use Rattle.geometry.specs.Locate.{segment_of, local_t, locate_of, point_along, pose_along}
 use Rattle.geometry.specs.Project.{left_normal, fraction_along, hit_along, nearer_at, project_to, project_segments, project_of}
+use Rattle.std.specs.Prelude.{false}
+use Rattle.geometry.specs.Polyline.{tangent_at}
 
 abbrev f : ℕ → Float
 f n = of_bits binary32 n
@@ -129,3 +131,66 @@ corner_pose : pose_along line arcs (one ∷ o ∷ o ∷ o ∷ one ∷ o ∷ o �
     ≡ record { position = place (f 0x40800000) o o; heading = record { x = f 0x3f3504f3; y = f 0x3f3504f3; z = o } }
 unfolding pose_along locate_of segment_of local_t leading point_at vector_at normalize_or length_of sqrt_of add sub mul div lt le of_bits
 corner_pose = refl
+
+-- ---- tangents one by one
+
+abbrev toward : Float → Float → Vector
+toward x y = record { x = x; y = y; z = o }
+
+abbrev ended : Ends
+ended = record { given = true; start = zero_vector; end = record { x = eight; y = o; z = eight } }
+
+-- a given start at unit length on the ground, the bisector at the corner; a zero end falls back to the chord
+corner_start : tangent_at corner 3 turned 0 ≡ toward o one
+unfolding end_or chord_at normalize_or length_of sqrt_of point_at add sub mul div lt of_bits
+corner_start = refl
+
+corner_bisector : tangent_at corner 3 turned 1 ≡ toward (f 0x3f3504f3) (f 0x3f3504f3)
+unfolding end_or chord_at normalize_or length_of sqrt_of point_at add sub mul div lt of_bits
+corner_bisector = refl
+
+corner_end : tangent_at corner 3 turned 2 ≡ toward o one
+unfolding end_or chord_at normalize_or length_of sqrt_of point_at add sub mul div lt of_bits
+corner_end = refl
+
+-- a zero start falls back to the chord; a given end
+other_start : tangent_at corner 3 ended 0 ≡ toward one o
+unfolding end_or chord_at normalize_or length_of sqrt_of point_at add sub mul div lt of_bits
+other_start = refl
+
+other_end : tangent_at corner 3 ended 2 ≡ toward one o
+unfolding end_or chord_at normalize_or length_of sqrt_of point_at add sub mul div lt of_bits
+other_end = refl
+
+-- a chord is dropped onto the ground, and tangents that are not given do not count
+abbrev kept : Ends
+kept = record { given = false; start = toward o eight; end = toward o eight }
+
+abbrev ramp : List Float
+ramp = o ∷ o ∷ o ∷ eight ∷ o ∷ eight ∷ []
+
+ramp_start : tangent_at ramp 2 kept 0 ≡ toward one o
+unfolding end_or chord_at normalize_or length_of sqrt_of point_at add sub mul div lt of_bits
+ramp_start = refl
+
+ramp_end : tangent_at ramp 2 kept 1 ≡ toward one o
+unfolding end_or chord_at normalize_or length_of sqrt_of point_at add sub mul div lt of_bits
+ramp_end = refl
+
+-- a segment of 1e-6 counts as of no length, one of the next f32 does not
+short_segment : local_t (o ∷ f 0x358637bd ∷ []) 0 (f 0x358637bd) ≡ o
+unfolding local_t sub div lt of_bits
+short_segment = refl
+
+long_segment : local_t (o ∷ f 0x358637be ∷ []) 0 (f 0x358637be) ≡ one
+unfolding local_t sub div lt of_bits
+long_segment = refl
+
+-- a squared length of just 1e-9 counts as none, the next f32 above does not
+short_squared : fraction_along (place o o o) (toward (f 0x3804a277) (f 0x33faf33d)) (place eight o o) ≡ o
+unfolding fraction_along add sub mul div lt of_bits
+short_squared = refl
+
+long_squared : fraction_along (place o o o) (toward (f 0x3804a2b3) o) (place eight o o) ≡ one
+unfolding fraction_along add sub mul div lt of_bits
+long_squared = refl

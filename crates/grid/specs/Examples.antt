@@ -7,6 +7,7 @@ use Rattle.grid.specs.declared.Grid.{Grid}
 use Rattle.grid.specs.declared.Cell.{Cell}
 use Rattle.grid.specs.Grid.{box_at, grown, padded, dist2, grid_of, bucket}
 use Rattle.grid.specs.Ring.{ring_of, reached_at}
+use Rattle.grid.specs.Grid.{side, first_cell}
 
 f : ℕ → Float
 f = of_bits binary32
@@ -117,3 +118,36 @@ reached_at_nothing = refl
 not_reached_near : reached_at (grid 0x40000000 9 9) 1 (f 1) ≡ false
 unfolding f grid reached_at of_bits of_int mul le lt eq
 not_reached_near = refl
+
+-- ---- more of the dimensions
+
+-- a straight road along y: the floor of 1e-3 m is under both sides
+along_y : grid_of (box 0 0 0 0x41000000) 2 ≡ grid 0x3db60b61 1 90
+unfolding f box grid grid_of of_bits of_int add sub mul div lt eq is_nan to_unsigned
+along_y = refl
+
+-- 1,024 cells a side and no more, at least one; what is over a whole number of cells takes one more
+sides :
+    (side (f 0x44800000) ≡ 1024)
+    × (side (f 0x44800001) ≡ 1024)
+    × (side (f 0x447fffff) ≡ 1024)
+    × (side (f 0x447fc000) ≡ 1023)
+    × (side (f 0) ≡ 1)
+unfolding f side of_bits to_unsigned
+sides = (refl, refl, refl, refl, refl)
+
+-- the first cell size on 4 m by 4 m. 2 items a cell: two boxes have one cell of 4 m, three have cells of two thirds of its area, and eight have four
+-- cells of 2 m; one box has one cell too; and on a single point, a cell of 1e-3 m
+items_a_cell :
+    (first_cell (f 0x40800000) (f 0x40800000) 1 ≡ f 0x40800000)
+    × (first_cell (f 0x40800000) (f 0x40800000) 2 ≡ f 0x40800000)
+    × (first_cell (f 0x40800000) (f 0x40800000) 3 ≡ f 0x405105ec)
+    × (first_cell (f 0x40800000) (f 0x40800000) 8 ≡ f 0x40000000)
+    × (first_cell (f 0) (f 0) 8 ≡ f 0x3a83126f)
+unfolding f first_cell of_bits of_int mul div lt eq is_nan
+items_a_cell = (refl, refl, refl, refl, refl)
+
+-- and on a line of 8,192 m with 1,152 boxes: 8 m, a 1,024th, whichever way it runs
+longest_cell : (first_cell (f 0x46000000) (f 0) 1152 ≡ f 0x41000000) × (first_cell (f 0) (f 0x46000000) 1152 ≡ f 0x41000000)
+unfolding f first_cell of_bits of_int mul div lt eq is_nan
+longest_cell = (refl, refl)
