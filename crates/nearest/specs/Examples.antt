@@ -60,3 +60,9 @@ second_drives : asked two (at 0x40400000 0x3f800000 0)
     }
 unfolding asked add sub mul div lt le eq of_bits to_unsigned of_int is_nan
 second_drives = refl
+
+-- all other fields of a refused answer are zero
+zeros : (n : ℕ)
+    → refusal n
+    ≡ record { number = n; lane = record { 0 = 0 }; projection = record { s = of_bits binary32 0; point = at 0 0 0; offset = of_bits binary32 0 } }
+zeros n = refl
