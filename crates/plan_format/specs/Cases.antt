@@ -13,6 +13,8 @@ use Rattle.plan_format.specs.Samples.{straight, wide}
 use Rattle.plan_format.specs.Tables.{Tables, linked, plan_rows, rows, rows_from, tables}
 use Rattle.plan_format.specs.declared.Counts.{Counts}
 use Rattle.plan_format.specs.declared.Query.TheVariants.{Advance, Beside}
+use Rattle.plan_format.specs.Reading.{read_of}
+use Rattle.plan_format.specs.Samples.{f32_bits, lane}
 
 numbers : List (List ℕ) → List ℕ
 numbers files = map (λ (s : List ℕ). number_is (decode 0 s)) files
@@ -248,3 +250,72 @@ unfolding
     in_range within record_number with_record walk walked index_of repeats twice lacks judged settled decode bytes made point straight
     link wide section_by section place eight rows rows_from linked plan_rows rows_in placed
 placed_rows = (refl, refl, refl)
+
+-- the next f64 below 0
+below : ℕ
+below = 0x8000000000000001
+
+-- start and end. 5: a start just below 0; both just below 0
+bounds_below : numbers (bounded below two ∷ bounded below below ∷ []) ≡ 5 ∷ 5 ∷ []
+unfolding
+    of_bits le lt u32_at u64_at run raised_at query_at lane_fits section_fits fits every any rises_from rises lane_range section_range
+    in_range within record_number with_record walk walked index_of repeats twice lacks judged settled decode bytes made wide section_by
+    bounded below two four number_is numbers
+bounds_below = refl
+
+-- 5: a station just below 0
+stations_below : number_is (decode 0 (section_by 0 0 0 four (below ∷ 0 ∷ []))) ≡ 5
+unfolding
+    of_bits le lt u32_at u64_at run raised_at query_at lane_fits section_fits fits every any rises_from rises lane_range section_range
+    in_range within record_number with_record walk walked index_of repeats twice lacks judged settled decode bytes made wide section_by
+    below four number_is
+stations_below = refl
+
+-- the OpenDRIVE lane numbers 0, 1, 2^31 - 1, -2^31 and -1, each with 2^31 added
+raised_numbers :
+    map (λ (n : ℕ). raised_at (bytes 4 n) 0) (0 ∷ 1 ∷ 0x7fffffff ∷ 0x80000000 ∷ 0xffffffff ∷ [])
+    ≡ 0x80000000 ∷ 0x80000001 ∷ 0xffffffff ∷ 0 ∷ 0x7fffffff ∷ []
+unfolding u32_at raised_at bytes
+raised_numbers = refl
+
+-- each field in its place: a lane of two points with tangents, after a section and its place
+whole_records :
+    decode 0
+    (section_by 513 2 two four (0 ∷ four ∷ [])
+    ++ (place 1 513 2 5 ++ lane 3 1 1 2 (point 1 2 3 ++ (point 4 5 6 ++ (point 7 8 9 ++ point 10 11 12)))))
+    ≡ accepted (record {
+      lanes =
+          record {
+            number = 1;
+            type = 3;
+            direction = 1;
+            ends = 1;
+            count = 2;
+            points = f32_bits 1 ∷ f32_bits 2 ∷ f32_bits 3 ∷ f32_bits 4 ∷ f32_bits 5 ∷ f32_bits 6 ∷ [];
+            tangents = f32_bits 7 ∷ f32_bits 8 ∷ f32_bits 9 ∷ f32_bits 10 ∷ f32_bits 11 ∷ f32_bits 12 ∷ [];
+          }
+          ∷ [];
+      links = [];
+      sections =
+          record {
+            road = 513;
+            index = 2;
+            start = of_bits binary64 two;
+            end = of_bits binary64 four;
+            count = 2;
+            stations = of_bits binary64 0 ∷ of_bits binary64 four ∷ [];
+          }
+          ∷ [];
+      places = record { lane = 1; road = 513; index = 2; raised = 0x80000005 } ∷ [];
+      queries = [];
+    })
+unfolding
+    of_bits le lt u32_at u64_at run raised_at query_at lane_fits section_fits fits every any rises_from rises lane_range section_range
+    in_range within record_number with_record walk walked index_of repeats twice lacks judged settled decode bytes made point lane wide section_by
+    place two four f32_bits
+whole_records = refl
+
+-- a refusal has no counts
+refusal_counts : (n : ℕ)
+    → read_of (refused n) ≡ record { number = n; counts = record { lanes = 0; points = 0; links = 0; sections = 0; stations = 0; places = 0 } }
+refusal_counts n = refl

@@ -11,6 +11,7 @@ use Rattle.plan_format.specs.Plan.{Plan, index_of}
 use Rattle.plan_format.specs.Records.{Lane}
 use Rattle.pose.specs.Lanes.{pose_in, posed_at, refused_pose}
 use Rattle.pose.specs.declared.Posed.{Posed}
+use Rattle.std.specs.Prelude.{ℕ}
 
 abbrev o : Float
 o = of_bits binary32 0
@@ -90,3 +91,33 @@ turned_second = refl
 unknown : pose_in road 8 two ≡ refused_pose 12
 unfolding pose_in index_of
 unknown = refl
+
+-- lane 9 with an end tangent that leads straight on and up
+abbrev bent : Lane
+bent =
+    record {
+      number = 9;
+      type = 0;
+      direction = 0;
+      ends = 1;
+      count = 3;
+      points = o ∷ o ∷ o ∷ eight ∷ o ∷ o ∷ eight ∷ eight ∷ o ∷ [];
+      tangents = o ∷ eight ∷ eight ∷ eight ∷ o ∷ eight ∷ [];
+    }
+
+-- 4 m into the second segment: between the bisector at the corner and the end tangent on the ground
+bent_second :
+    pose_in (record { lanes = straight ∷ bent ∷ []; links = []; sections = []; places = []; queries = [] }) 9 (of_bits binary32 0x41400000)
+    ≡ posed_at
+    (record {
+      position = record { x = eight; y = of_bits binary32 0x40800000; z = o };
+      heading = record { x = of_bits binary32 0x3f6c835f; y = of_bits binary32 0x3ec3ef15; z = o };
+    })
+unfolding pose_in index_of pose_along locate_of segment_of local_t leading cumulative_of arc_at tangents_to end_or chord_at point_at vector_at
+    normalize_or length_of sqrt_of add sub mul div lt le of_bits
+bent_second = refl
+
+-- all other fields of a refused answer are zero
+zeros : (n : ℕ) → refused_pose n
+    ≡ record { number = n; pose = record { position = record { x = o; y = o; z = o }; heading = record { x = o; y = o; z = o } } }
+zeros n = refl
