@@ -2,3 +2,4 @@
 pub mod Ends
 pub mod Held
 pub mod EndLaws
+pub mod Cases

@@ -2,3 +2,4 @@
 pub mod Explore
 pub mod Held
 pub mod RunLaws
+pub mod Cases
