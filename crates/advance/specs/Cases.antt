@@ -28,6 +28,7 @@ use Rattle.advance.specs.Advance.{Answer, first_branches, explored, rows_of, ref
 use Rattle.advance.specs.InPlan.{advance_in}
 use Rattle.branches.specs.Front.{enter, enter_all}
 use Rattle.ends.specs.Ends.{placing_of, end_arc, end_position, end_of, give, place}
+use Rattle.std.specs.Prelude.{true, false}
 
 abbrev f : ℕ → Float
 f n = of_bits binary32 n
@@ -143,4 +144,36 @@ worked =
       by_infinity = refl;
       from_three = refl;
       short_list = refl;
+    }
+
+-- all other fields of a refused answer are zero, and the lists stay
+zeros : (n : ℕ) (rows : List ℕ) (metres : List Float)
+    → refused_with n rows metres ≡ record { advanced = record { number = n; keys = 0; positions = 0 }; rows = rows; metres = metres }
+zeros n rows metres = refl
+
+pub record Refusals : Type 0 where
+  -- lane 3 has no place, whatever the distance; 13 before 14
+  pub from_three_by_infinity : moved [] (at 3 sixteen64) (d 0x7ff0000000000000) ≡ refused_with 12 (7 ∷ 7 ∷ []) (d 7 ∷ d 7 ∷ d 7 ∷ [])
+  pub by_infinity_short : advance_in (plan []) from (d 0x7ff0000000000000) [] [] ≡ refused_with 13 [] []
+  -- no room for the position in the second list
+  pub short_metres : advance_in (plan []) from (d 0x4018000000000000) (7 ∷ 7 ∷ []) (d 7 ∷ d 7 ∷ [])
+      ≡ refused_with 14 (7 ∷ 7 ∷ []) (d 7 ∷ d 7 ∷ [])
+  -- a 1,025th key: 14, whatever was found; 1,024 keys are an answer
+  pub full_keys : answered_by true 1024 [] (7 ∷ []) (d 7 ∷ []) ≡ refused_with 14 (7 ∷ []) (d 7 ∷ [])
+  pub most_keys : answered_by false 1024 [] (7 ∷ []) (d 7 ∷ [])
+      ≡ record { advanced = record { number = 0; keys = 1024; positions = 0 }; rows = 7 ∷ []; metres = d 7 ∷ [] }
+
+pub refusals : Refusals
+unfolding advance_in plan_rows lane_rows rows rows_from linked index_of advance_rows advance_row answered_by explored run step_from follow place give
+    end_of end_position end_arc placing_of enter enter_all first_branches rows_of first_row next_lanes kept is_next at_end up_on branch_onto key_of holds
+    millimetres led_to along_of fraction_at station_of station_on reached_by part_of segment_of leading arc_at cumulative_of point_at sqrt_of length_of
+    narrow_of round_of whole_by abs_of point_along locate_of local_t project_segments project_to nearer_at hit_along fraction_along left_normal cross_of
+    normalize_or to_bits to_signed add sub mul div lt le eq neg of_bits of_int round is_nan
+refusals =
+    record {
+      from_three_by_infinity = refl;
+      by_infinity_short = refl;
+      short_metres = refl;
+      full_keys = refl;
+      most_keys = refl;
     }
