@@ -24,6 +24,7 @@ use Rattle.search.specs.LaneGraph.{edges, out}
 use Rattle.search.specs.Search.{blank, expanded, least_open, marked, rebuild, relaxed, run, searched, settled}
 use Rattle.tables.specs.LaneTables.{lane_rows}
 use Rattle.route.specs.Route.{Routed, between, fitted, followed, lengths_to, path_by, refusal, route_in, routed, suffices, tables_of}
+use Rattle.std.specs.Float.{nan}
 
 -- ---- the plans
 
@@ -138,3 +139,107 @@ one_short = refl
 one_past : first_of 3 (sampled straight (0 ∷ 1 ∷ []) (m 2) (m 4)) ≡ at 6 ∷ at 4 ∷ at 2 ∷ []
 unfolding sampled first_of
 one_past = refl
+
+-- ---- lanes with heights, each of which the Rust was asked for too: points by the bits of their coordinates
+
+abbrev bits : ℕ → ℕ → ℕ → Point
+bits x y z = record { x = of_bits binary32 x; y = of_bits binary32 y; z = of_bits binary32 z }
+
+-- in whole metres
+abbrev high : ℕ → ℕ → ℕ → Point
+high x y z = record { x = m x; y = m y; z = m z }
+
+-- up one slope, 6 m on and 8 m up, and up another, 12 m on and 5 m up: s goes along the slope. From beside (0.6, 0, 0.8) to beside (6, 6, 10.5)
+abbrev climb : Plan
+climb = plan (lane 0 1 (high 0 0 0) (high 6 0 8) ∷ lane 0 2 (high 6 0 8) (high 6 12 13) ∷ []) (link 1 0 2 ∷ [])
+
+climbed : route climb (bits 0x3f19999a 0x3f000000 0x3f4ccccd) (bits 0x40a00000 0x40c00000 0x41280000) 257 12288
+    ≡ over 2
+    (bits 0x3f19999a 0 0x3f4ccccd ∷ bits 0x3fd70a3f 0 0x400f5c2a ∷ bits 0x4030a3d8 0 0x406b8520 ∷ bits 0x4075c28f 0 0x40a3d70a
+    ∷ bits 0x409d70a4 0 0x40d1eb86 ∷ bits 0x40c00000 0 0x41000000 ∷ bits 0x40c00000 0x3fc00000 0x410a0000
+    ∷ bits 0x40c00000 0x40400000 0x41140000 ∷ bits 0x40c00000 0x40900000 0x411e0000 ∷ bits 0x40c00000 0x40c00000 0x41280000 ∷ [])
+    (m 10)
+unfolding route
+climbed = refl
+
+-- 10 m on up a slope of 20 m, then to the lane beside, 4 m to the left and 1 m higher: at the place nearest in space, which lies back
+abbrev slopes : Plan
+slopes = plan (lane 0 1 (high 0 0 0) (high 12 0 16) ∷ lane 0 2 (high 0 4 1) (high 12 4 17) ∷ []) (link 1 2 2 ∷ [])
+
+changed : route slopes (high 0 0 0) (high 12 4 17) 257 12288
+    ≡ over 2
+    (bits 0 0 0 ∷ bits 0x3f99999a 0 0x3fcccccd ∷ bits 0x4019999a 0 0x404ccccd ∷ bits 0x40666667 0 0x4099999a
+    ∷ bits 0x4099999a 0 0x40cccccd ∷ bits 0x40c00000 0 0x41000000 ∷ bits 0x40b0a3d6 0x40800000 0x4105c28f
+    ∷ bits 0x40d33334 0x40800000 0x411ccccd ∷ bits 0x40f5c28f 0x40800000 0x4133d70a ∷ bits 0x410c28f6 0x40800000 0x414ae148
+    ∷ bits 0x411d70a4 0x40800000 0x4161eb85 ∷ bits 0x412eb852 0x40800000 0x4178f5c3 ∷ bits 0x41400000 0x40800000 0x41880000 ∷ [])
+    (m 30)
+unfolding route
+changed = refl
+
+-- a Both lane straight up, driven toward a lane from its upper end, and toward one from its lower end
+abbrev shaft : Plan
+shaft =
+    plan (lane 2 1 (high 0 0 0) (high 0 0 8) ∷ lane 0 2 (high 0 0 8) (high 6 0 8) ∷ lane 0 3 (high 0 0 0) (high 6 0 0) ∷ [])
+    (link 1 0 2 ∷ link 1 0 3 ∷ [])
+
+shaft_up : route shaft (high 0 0 3) (high 3 0 8) 257 12288
+    ≡ over 2
+    (bits 0 0 0x40400000 ∷ bits 0 0 0x40955556 ∷ bits 0 0 0x40caaaab ∷ bits 0 0 0x41000000 ∷ bits 0x3fc00000 0 0x41000000
+    ∷ bits 0x40400000 0 0x41000000 ∷ [])
+    (m 8)
+unfolding route
+shaft_up = refl
+
+shaft_down : route shaft (high 0 0 3) (high 3 0 0) 257 12288
+    ≡ over 3
+    (bits 0 0 0x40400000 ∷ bits 0 0 0x3fc00000 ∷ bits 0 0 0 ∷ bits 0x3fc00000 0 0 ∷ bits 0x40400000 0 0 ∷ [])
+    (m 8)
+unfolding route
+shaft_down = refl
+
+-- a bridge 6 m over a road: the lane is the one nearer in space, midway the first. On one lane the length is 0
+abbrev bridge : Plan
+bridge = plan (lane 0 1 (high 0 0 0) (high 8 0 0) ∷ lane 0 2 (high 0 0 6) (high 8 0 6) ∷ []) []
+
+abbrev alone : ℕ → List Point → Routed
+alone n ps = record { number = 0; chain = n ∷ []; points = xyz ps; length = m 0 }
+
+on_the_bridge : route bridge (high 1 0 4) (bits 0x40c00000 0 0x40600000) 257 12288
+    ≡ alone 2
+    (bits 0x3f800000 0 0x40c00000 ∷ bits 0x402aaaab 0 0x40c00000 ∷ bits 0x408aaaab 0 0x40c00000 ∷ bits 0x40c00000 0 0x40c00000 ∷ [])
+unfolding route
+on_the_bridge = refl
+
+under_the_bridge : route bridge (high 1 0 3) (high 6 0 3) 257 12288
+    ≡ alone 1
+    (bits 0x3f800000 0 0 ∷ bits 0x402aaaab 0 0 ∷ bits 0x408aaaab 0 0 ∷ bits 0x40c00000 0 0 ∷ [])
+unfolding route
+under_the_bridge = refl
+
+-- ---- refusals
+
+-- all other fields of a refused answer are zero
+zeros : (n : ℕ) → refusal n ≡ record { number = n; chain = []; points = []; length = of_bits binary32 0 }
+zeros n = refl
+
+-- 9: a coordinate of the first point, or of the second, is not finite, whatever the plan. 10: no lane drives. 11: nothing leads to the other
+-- lane, nor back on the same
+refused :
+    (route (plan [] []) (point nan (m 0)) (at 0) 257 12288 ≡ refusal 9)
+    × (route bridge (at 0) (point (m 0) (of_bits binary32 0x7f800000)) 257 12288 ≡ refusal 9)
+    × (route (plan [] []) (at 0) (at 0) 257 12288 ≡ refusal 10)
+    × (route bridge (high 0 0 0) (high 0 0 6) 257 12288 ≡ refusal 11)
+    × (route bridge (at 6) (at 2) 257 12288 ≡ refusal 11)
+unfolding route
+refused = (refl, refl, refl, refl, refl)
+
+-- ---- lists that are too short or just hold the answer
+
+-- in a list for one lane, 14; in lists that just hold it, the route
+one_lane_short : route straight (at 2) (at 12) 1 18 ≡ refusal 14
+unfolding route
+one_lane_short = refl
+
+just_held : route straight (at 2) (at 12) 2 18 ≡ over 2 (at 2 ∷ at 4 ∷ at 6 ∷ at 8 ∷ at 10 ∷ at 12 ∷ []) (m 8)
+unfolding route
+just_held = refl
