@@ -3,4 +3,4 @@ use borrow.Author.Rules.{rules}
 use Rattle.lanes_c_route.proofs.kartsodi_route.Goals as goal
 
 pub returns : goal.returns
-returns c = let h = c.route.ensures in record { calls = h.0; promise = h.1 }
+returns c = record { calls = c.route.ensures.calls; promise = c.route.ensures.promise }
