@@ -2,7 +2,7 @@
 use Rattle.std.specs.Prelude.{[], ◌∷◌, ℕ, ◌+◌, ◌<◌, ◌≤◌, Float}
 use Rattle.std.specs.Float.{binary32}
 use Rattle.std.specs.Float.Ieee.{of_bits}
-use Rattle.std.proofs.Common.{inl, inr, arith, lit<, lit≤}
+use Rattle.std.proofs.Common.{inl, inr, le_trans, arith, lit<, lit≤}
 use Rattle.coords.specs.declared.Point.{Point}
 use Rattle.exact.specs.Integers.{Z, ◌⊑◌, ◌⊞◌, ◌⊟◌, ◌⊠◌, ◌·◌, sgn, ι}
 use Rattle.exact.specs.Values.{U, mag, val}
@@ -24,7 +24,7 @@ end = record { x = f 0x3f800000; y = f 0; z = f 0 }
 
 -- so many millionths of a metre from the start
 abbrev at : (n : ℕ) → n ≤ 1000000 → Place metre
-at n h = record { piece = 0; part = n; whole = 1000000; in_lane = omega arith; at_most = h; some = omega arith }
+at n h = record { piece = 0; part = n; whole = 1000000; in_lane = omega arith; at_most = le_trans h (lit≤ tt); some = omega arith }
 
 above : (a b : Z) → b.p + a.n < a.p + b.n → a ⊑ b → ⊥
 above a b h k = omega arith

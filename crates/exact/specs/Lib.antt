@@ -1,4 +1,5 @@
--- Exact values of floats: what is proved of them once, for every later crate. In the order of the modules:
+-- Exact values of floats: what is proved of them once, for every later crate. In the order of the modules (from the errors of rounding on, the laws
+-- stand in proofs/, under the same names):
 -- * A float is compared, added, multiplied and divided as the fraction that it equals (Fractions: `lt_values` .. `div_values`).
 -- * A pattern has the value of `units_of` units and a value its pattern back, in f32 and f64, subnormals included (Patterns:
 --   `bits_value`, `to_bits_units`, `pattern_of`); the order of patterns is that of values (`units_lt`).

@@ -1,5 +1,4 @@
--- Rounding keeps the order of signed fractions, and an f32 is what its own value rounds to. So a bound by an f32 is not lost by
--- rounding. The result of an operation is one rounded fraction (`Frac`): Arithmetic shows it of each.
+-- The result of an operation is one rounded fraction (`Frac`): proofs/Arithmetic shows it of each, proofs/Monotone that rounding keeps the order.
 use Rattle.std.specs.Prelude.{◌≡◌, ℕ, ◌*◌, ◌<◌, Bool, Float}
 use Rattle.std.specs.Float.{binary32}
 use Rattle.std.specs.Float.Ieee.{round}

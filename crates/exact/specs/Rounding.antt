@@ -1,6 +1,6 @@
 -- One rounding, in natural numbers. Of a fraction that is n / den units, `round` keeps a number q of steps of 2 ^ k units (`Kept`): the
--- nearest, and in a tie the even one. In binary32 the error is at most 2 ^ -24 of the fraction, and half a unit (`round_err`); of a
--- fraction that is a whole number of units, without the half unit (`round_err_whole`).
+-- nearest, and in a tie the even one. In binary32 the error is at most 2 ^ -24 of the fraction, and half a unit; of a fraction that is a
+-- whole number of units, without the half unit (`Err`; proofs/Rounding shows it of every fraction).
 use Rattle.std.specs.Prelude.{◌≡◌, refl, ◌⊎◌}
 use Rattle.std.proofs.Common.{sym, subst, inl, inr, le_trans, le_of_eq, mul-le-mul_right, div-add-mod', mod-lt, mul-pos, le-div_iff_mul-le, arith, pow-add, pow_pos}
 use Prim.Native.Nat.{ℕ, zero, suc, ◌+◌, ◌-◌, ◌*◌, ◌/◌, ◌%◌, ◌^◌, ◌≤◌, ◌<◌, compare, Ordering}

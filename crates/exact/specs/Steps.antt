@@ -1,4 +1,4 @@
--- One rounded operation, all that an error analysis needs of it, in one record: the result is a finite f32 (`good`), it stays within
+-- One rounded operation, all that an error analysis needs of it, in one record (proofs/Steps makes it): the result is a finite f32 (`good`), it stays within
 -- the power of two that bounds the exact value (`size`), it is not negative where the exact value is not (`keeps`), and its error is
 -- small (`near`).
 use Rattle.std.specs.Prelude.{ℕ, ◌*◌, ◌^◌, Float}

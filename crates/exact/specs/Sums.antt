@@ -1,4 +1,4 @@
--- Sums of f32 that are not negative. They stop growing, but they are monotone in each summand, no smaller than the first, and within
+-- Sums of f32 that are not negative (their laws are in proofs/Sums). They stop growing, but they are monotone in each summand, no smaller than the first, and within
 -- each bound that rounding keeps.
 -- Costs of a search: at most 2 ^ 60, or the infinity, which stands for no chain; a link's cost is at most 2 ^ 27. Since 2 ^ 60 + 2 ^ 27
 -- rounds to 2 ^ 60, no sum of links, however long, leaves that range.

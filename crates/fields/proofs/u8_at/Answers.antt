@@ -4,7 +4,7 @@ use borrow.Author.Rules.{rules}
 use Rattle.fields.proofs.u8_at.Goals as goal
 
 pub overflow_cast-result : goal.overflow_cast-result
-overflow_cast-result c = omega (arith, c.shared_slice_known-1.given c.args.at)
+overflow_cast-result c = omega (arith, c.type_inv.s c.args.at)
 
 pub returns : goal.returns
-returns c = (search rules, omega (arith, c.shared_slice_known-1.given c.args.at))
+returns c = (search rules, omega (arith, c.type_inv.s c.args.at))

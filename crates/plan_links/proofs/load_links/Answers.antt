@@ -12,10 +12,9 @@ use Rattle.plan_links.proofs.load_links.Goals as goal
 
 pub chain_links-requires : goal.chain_links-requires
 chain_links-requires c =
-    let shared-slice-known = c.shared_slice_known-1 in
     let a = c.args in
     let pre = c.requires in
-    let bytes : Bytes a.file.now = (λ i. omega (arith, shared-slice-known.given i)) in
+    let bytes : Bytes a.file.now = (λ i. omega (arith, c.type_inv.file i)) in
     let L = pre.0 in (
       L.link,
       L.links,
@@ -56,10 +55,9 @@ pub returns : goal.returns
 returns c =
     let group-links = c.group_links in
     let index-numbers = c.index_numbers in
-    let shared-slice-known = c.shared_slice_known-1 in
     let a = c.args in
     let pre = c.requires in
-    let bytes : Bytes a.file.now = (λ i. omega (arith, shared-slice-known.given i)) in
+    let bytes : Bytes a.file.now = (λ i. omega (arith, c.type_inv.file i)) in
     let groups = all_groups a.file.now a.ls.now a.ks.now a.ps.now a.index.now bytes pre.0 in
     let fans =
     all_fans a.file.now a.ls.now a.ks.now a.ps.now a.index.now bytes pre.0 _ index-numbers.ensures in

@@ -77,7 +77,7 @@ bounds-index-to c =
     omega (arith, c.u16_at-to.ensures.1, pre.0.index)
 
 pub overflow_cast-row : goal.overflow_cast-row
-overflow_cast-row c = omega (arith, c.shared_slice_known-in-loop-h-2-1.given c.u16_at-to.result)
+overflow_cast-row c = omega (arith, c.type_inv.index c.u16_at-to.result)
 
 pub overflow_add-start : goal.overflow_add-start
 overflow_add-start c =

@@ -7,7 +7,7 @@ use borrow.Author.Rules.{rules}
 use Rattle.plan_whole.proofs.lane_row.Goals as goal
 
 pub overflow_cast-result : goal.overflow_cast-result
-overflow_cast-result c = omega (arith, c.shared_slice_known-3-1.given c.u16_at-n.result)
+overflow_cast-result c = omega (arith, c.type_inv.rows c.u16_at-n.result)
 
 pub returns : goal.returns
 returns c =

@@ -56,10 +56,9 @@ returns-then-from_missing c =
     let if2 = c.if-any_twice in
     let any_twice = c.any_twice in
     let if1 = c.if-side-gt1 in
-    let shared-slice-known = c.shared_slice_known-1 in
     let a = c.args in
     let once = sym any_twice.ensures ∙ if2.false in
-    let bytes : Bytes a.file.now = (λ i. omega (arith, shared-slice-known.given i)) in
+    let bytes : Bytes a.file.now = (λ i. omega (arith, c.type_inv.file i)) in
     let from =
     from_is a.file.now bytes _ (map (key_at a.file.now 0) a.lanes.now) a.links.now index-numbers.ensures ∙
     sym c.from_missing.ensures in (
@@ -85,10 +84,9 @@ returns-then-any_misplaced c =
     let if2 = c.if-any_twice in
     let any_twice = c.any_twice in
     let if1 = c.if-side-gt1 in
-    let shared-slice-known = c.shared_slice_known-1 in
     let a = c.args in
     let once = sym any_twice.ensures ∙ if2.false in
-    let bytes : Bytes a.file.now = (λ i. omega (arith, shared-slice-known.given i)) in
+    let bytes : Bytes a.file.now = (λ i. omega (arith, c.type_inv.file i)) in
     let from =
     from_is a.file.now bytes _ (map (key_at a.file.now 0) a.lanes.now) a.links.now index-numbers.ensures ∙
     sym from_missing_law.ensures in (
@@ -105,10 +103,9 @@ returns c =
     let if2 = c.if-any_twice in
     let any_twice = c.any_twice in
     let if1 = c.if-side-gt1 in
-    let shared-slice-known = c.shared_slice_known-1 in
     let a = c.args in
     let once = sym any_twice.ensures ∙ if2.false in
-    let bytes : Bytes a.file.now = (λ i. omega (arith, shared-slice-known.given i)) in
+    let bytes : Bytes a.file.now = (λ i. omega (arith, c.type_inv.file i)) in
     let from =
     from_is a.file.now bytes _ (map (key_at a.file.now 0) a.lanes.now) a.links.now index-numbers.ensures ∙
     sym from_missing_law.ensures in (

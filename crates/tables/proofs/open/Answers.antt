@@ -28,8 +28,7 @@ pub returns-then-r-ne0 : goal.returns-then-r-ne0
 returns-then-r-ne0 c =
     let a = c.args in
     let read = c.read_plan-r in
-    let known = c.shared_slice_known-1 in
-    let bytes : Bytes a.file.now = (λ i. omega (arith, known.given i)) in
+    let bytes : Bytes a.file.now = (λ i. omega (arith, c.type_inv.file i)) in
     let t =
     tables a.lanes.now a.points.now a.ends.now a.fans.now a.links.now a.sections.now a.bounds.now
     a.stations.now a.places.now in
@@ -41,8 +40,7 @@ pub build-requires : goal.build-requires
 build-requires c =
     let a = c.args in
     let read = c.read_plan-r in
-    let known = c.shared_slice_known-1 in
-    let bytes : Bytes a.file.now = (λ i. omega (arith, known.given i)) in
+    let bytes : Bytes a.file.now = (λ i. omega (arith, c.type_inv.file i)) in
     let t =
     tables a.lanes.now a.points.now a.ends.now a.fans.now a.links.now a.sections.now a.bounds.now
     a.stations.now a.places.now in
@@ -55,8 +53,7 @@ pub returns : goal.returns
 returns c =
     let a = c.args in
     let read = c.read_plan-r in
-    let known = c.shared_slice_known-1 in
-    let bytes : Bytes a.file.now = (λ i. omega (arith, known.given i)) in
+    let bytes : Bytes a.file.now = (λ i. omega (arith, c.type_inv.file i)) in
     let t =
     tables a.lanes.now a.points.now a.ends.now a.fans.now a.links.now a.sections.now a.bounds.now
     a.stations.now a.places.now in
