@@ -1,6 +1,6 @@
 /* Kartsodi: lane queries for road-junction plans. The five public calls, for callers in C99 and C++ on x86-64 Linux.
  *
- * Link libkartsodi.a, which `c/build` writes to target/staticlib; it needs nothing but memset, memcpy and memmove. c/example.c asks every call once.
+ * Link libkartsodi.a, which `c/build` writes to target/staticlib; it needs nothing but memset and memcpy. c/example.c asks every call once.
  *
  * A call takes a plan file's bytes (docs/FORMAT.md, "The plan file"), the fields of one query, the eleven tables to work in and, for a route and an
  * advance, the lists for the answer. It answers every input, however long each piece of memory is: with number 0 and the one answer that the proved
