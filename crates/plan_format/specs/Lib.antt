@@ -2,6 +2,7 @@
 pub mod Records
 pub mod Plan
 pub mod Tables
+pub mod Refusals
 pub mod Reading
 pub mod Queries
 pub mod Keys

@@ -4,6 +4,7 @@
 ghost use Rattle.std.specs.Prelude.{◌≡◌};
 ghost use Rattle.plan_format.specs.Plan.{refused};
 ghost use Rattle.plan_format.specs.Reading.{read_of};
+ghost use Rattle.plan_format.specs.Refusals.{number_of};
 
 // A lane by its number, and a road by its number: neither stands for the other, nor for a row of a table.
 #[repr(C)]
@@ -12,6 +13,51 @@ pub struct LaneId(pub usize);
 
 #[derive(Clone, Copy)]
 pub struct RoadId(pub usize);
+
+// Why a call is refused.
+#[derive(Clone, Copy, Debug, PartialEq, Eq)]
+pub enum Refusal {
+    ShortTable,
+    LongFile,
+    CutRecord,
+    WrongLength,
+    OutOfRange,
+    OverLimit,
+    StandsTwice,
+    Missing,
+    NotFinite,
+    NoLaneDrives,
+    NoChain,
+    OffTheLanes,
+    InfiniteDistance,
+    ShortList,
+    NoLaneBeside,
+}
+
+impl Refusal {
+    // The number that an answer gives for it.
+    pub fn number(self) -> usize
+        ensures { result ≡ number_of self }
+    {
+        match self {
+            Refusal::ShortTable => 1,
+            Refusal::LongFile => 2,
+            Refusal::CutRecord => 3,
+            Refusal::WrongLength => 4,
+            Refusal::OutOfRange => 5,
+            Refusal::OverLimit => 6,
+            Refusal::StandsTwice => 7,
+            Refusal::Missing => 8,
+            Refusal::NotFinite => 9,
+            Refusal::NoLaneDrives => 10,
+            Refusal::NoChain => 11,
+            Refusal::OffTheLanes => 12,
+            Refusal::InfiniteDistance => 13,
+            Refusal::ShortList => 14,
+            Refusal::NoLaneBeside => 15,
+        }
+    }
+}
 
 // How many entries of each kind a plan has.
 #[repr(C)]

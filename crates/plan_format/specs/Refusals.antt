@@ -1,0 +1,28 @@
+-- The number that an answer gives for each refusal.
+use Rattle.std.specs.Prelude.{ℕ}
+use Rattle.std.specs.Prelude.{Result, Ok, Err}
+use Rattle.plan_format.specs.declared.Refusal.{Refusal}
+use Rattle.plan_format.specs.declared.Refusal.TheVariants.{ShortTable, LongFile, CutRecord, WrongLength, OutOfRange, OverLimit, StandsTwice, Missing}
+use Rattle.plan_format.specs.declared.Refusal.TheVariants.{NotFinite, NoLaneDrives, NoChain, OffTheLanes, InfiniteDistance, ShortList, NoLaneBeside}
+
+abbrev pub number_of : Refusal → ℕ
+number_of ShortTable = 1
+number_of LongFile = 2
+number_of CutRecord = 3
+number_of WrongLength = 4
+number_of OutOfRange = 5
+number_of OverLimit = 6
+number_of StandsTwice = 7
+number_of Missing = 8
+number_of NotFinite = 9
+number_of NoLaneDrives = 10
+number_of NoChain = 11
+number_of OffTheLanes = 12
+number_of InfiniteDistance = 13
+number_of ShortList = 14
+number_of NoLaneBeside = 15
+
+-- the number of a test: 0 where it finds nothing to refuse
+abbrev pub found_number : {A : Type 0} → Result A Refusal → ℕ
+found_number (Ok x) = 0
+found_number (Err e) = number_of e
