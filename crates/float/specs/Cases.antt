@@ -7,7 +7,7 @@ use Rattle.float.specs.Narrow.{narrow_of}
 use Rattle.float.specs.Root.{sqrt_of}
 use Rattle.float.specs.Sign.{abs_of, is_negative, signum_of}
 use Rattle.float.specs.Whole.{ceil_of, floor_of, round_of}
-use Rattle.float.specs.declared.choose.Order.TheVariants.{Greater, Less}
+use Rattle.std.specs.declared.cmp.Ordering.TheVariants.{Greater, Less}
 
 abbrev f : ℕ → Float
 f n = of_bits binary32 n

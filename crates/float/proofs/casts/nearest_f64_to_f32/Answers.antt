@@ -24,10 +24,10 @@ narrowed-y-requires c = number_below binary64 _ (abs_no_nan_bits binary64 _ c.we
 pub float_from_bits-y : goal.float_from_bits-y
 float_from_bits-y c = no_nan_below binary32 c.narrowed-y.result (omega arith)
 
-pub returns-then-is_sign_negative64 : goal.returns-then-is_sign_negative64
-returns-then-is_sign_negative64 c =
+pub returns-then-is_sign_negative : goal.returns-then-is_sign_negative
+returns-then-is_sign_negative c =
     ap neg (size c.before.before) ∙ narrow_neg (abs_of _)
-    ∙ ap narrow_of (sym (with_sign _ true (sym c.is_sign_negative64.ensures ∙ c.if-is_sign_negative64.true)))
+    ∙ ap narrow_of (sym (with_sign _ true (sym c.is_sign_negative.ensures ∙ c.if-is_sign_negative.true)))
 
 pub returns : goal.returns
-returns c = size c.before.before ∙ ap narrow_of (sym (with_sign _ false (sym c.is_sign_negative64.ensures ∙ c.if-is_sign_negative64.false)))
+returns c = size c.before.before ∙ ap narrow_of (sym (with_sign _ false (sym c.is_sign_negative.ensures ∙ c.if-is_sign_negative.false)))
