@@ -12,6 +12,8 @@ ghost use Rattle.float.specs.Sign.{abs_of, is_negative, signum_of};
 ghost use Rattle.float.specs.Whole.{floor_of, ceil_of, round_of};
 ghost use Rattle.float_c.specs.Number.{number_of};
 
+use std::cmp::Ordering;
+
 #[unsafe(no_mangle)]
 pub extern "C" fn kartsodi_floor(x: f32) -> f32
     ensures { result ≡ floor_of x }
@@ -30,7 +32,7 @@ pub extern "C" fn kartsodi_ceil(x: f32) -> f32
 pub extern "C" fn kartsodi_round64(x: f64) -> f64
     ensures { result ≡ round_of x }
 {
-    float::round64(x)
+    float::round(x)
 }
 
 #[unsafe(no_mangle)]
@@ -51,7 +53,7 @@ pub extern "C" fn kartsodi_abs(x: f32) -> f32
 pub extern "C" fn kartsodi_abs64(x: f64) -> f64
     ensures { result ≡ abs_of x }
 {
-    float::abs64(x)
+    float::abs(x)
 }
 
 #[unsafe(no_mangle)]
@@ -72,7 +74,7 @@ pub extern "C" fn kartsodi_is_sign_negative(x: f32) -> bool
 pub extern "C" fn kartsodi_is_sign_negative64(x: f64) -> bool
     ensures { result ≡ is_negative x }
 {
-    float::is_sign_negative64(x)
+    float::is_sign_negative(x)
 }
 
 #[unsafe(no_mangle)]
@@ -86,7 +88,7 @@ pub extern "C" fn kartsodi_is_nan(x: f32) -> bool
 pub extern "C" fn kartsodi_is_nan64(x: f64) -> bool
     ensures { result ≡ is_nan x }
 {
-    float::is_nan64(x)
+    float::is_nan(x)
 }
 
 #[unsafe(no_mangle)]
@@ -100,7 +102,7 @@ pub extern "C" fn kartsodi_is_finite(x: f32) -> bool
 pub extern "C" fn kartsodi_is_finite64(x: f64) -> bool
     ensures { result ≡ finite x }
 {
-    float::is_finite64(x)
+    float::is_finite(x)
 }
 
 #[unsafe(no_mangle)]
@@ -114,7 +116,7 @@ pub extern "C" fn kartsodi_min(x: f32, y: f32) -> f32
 pub extern "C" fn kartsodi_min64(x: f64, y: f64) -> f64
     ensures { result ≡ min_of x y }
 {
-    float::min64(x, y)
+    float::min(x, y)
 }
 
 #[unsafe(no_mangle)]
@@ -135,7 +137,7 @@ pub extern "C" fn kartsodi_clamp(x: f32, lo: f32, hi: f32) -> f32
 pub extern "C" fn kartsodi_clamp64(x: f64, lo: f64, hi: f64) -> f64
     ensures { result ≡ clamp_of x lo hi }
 {
-    float::clamp64(x, lo, hi)
+    float::clamp(x, lo, hi)
 }
 
 #[unsafe(no_mangle)]
@@ -184,7 +186,7 @@ pub extern "C" fn kartsodi_from_bits(b: u32) -> f32
 pub extern "C" fn kartsodi_from_bits64(b: u64) -> f64
     ensures { result ≡ of_bits binary64 b }
 {
-    float::from_bits64(b)
+    float::from_bits(b)
 }
 
 #[unsafe(no_mangle)]
@@ -198,7 +200,7 @@ pub extern "C" fn kartsodi_to_bits(x: f32) -> u32
 pub extern "C" fn kartsodi_to_bits64(x: f64) -> u64
     ensures { result ≡ to_bits binary64 x }
 {
-    float::to_bits64(x)
+    float::to_bits(x)
 }
 
 // -1 for less, 0 for equal, 1 for greater.
@@ -206,10 +208,9 @@ pub extern "C" fn kartsodi_to_bits64(x: f64) -> u64
 pub extern "C" fn kartsodi_total_cmp(x: f32, y: f32) -> i32
     ensures { result ≡ number_of (total_of x y) }
 {
-    let o = float::total_cmp(x, y);
-    match o {
-        float::Order::Less => -1,
-        float::Order::Equal => 0,
-        float::Order::Greater => 1,
+    match float::total_cmp(x, y) {
+        Ordering::Less => -1,
+        Ordering::Equal => 0,
+        Ordering::Greater => 1,
     }
 }
