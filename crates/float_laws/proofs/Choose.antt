@@ -6,7 +6,7 @@ use mathlib.Core.Bool.{Bool, true, false, not, ◌&&◌, cond, true≢false, fal
 use lib.Dec.{T}
 use lib.Ieee.{Float, nan, inf, fin, Format, lt, le, eq, fits, is_nan}
 use lib.Ieee.Bits.{is_false}
-use Rattle.float.specs.declared.choose.Order.TheVariants.{Less, Equal, Greater}
+use Rattle.std.specs.declared.cmp.Ordering.TheVariants.{Less, Equal, Greater}
 use Rattle.float.specs.Sign.{is_negative}
 use Rattle.float.specs.Choose.{zero, level_of, min_of, max_of, clamp_of, pick, compare_bools, total_of}
 use Rattle.float_laws.specs.Choose.{Least, Greatest, Clamped}

@@ -3,7 +3,7 @@ use mathlib.Core.Path.{◌≡◌, refl}
 use mathlib.Core.Bool.{true, false}
 use lib.IntN.{pos, negsuc}
 use lib.Ieee.{nan, inf, fin, binary32, binary64, of_bits, of_int, to_bits, to_unsigned, to_signed, round, lt, eq, is_nan}
-use Rattle.float.specs.declared.choose.Order.TheVariants.{Less}
+use Rattle.std.specs.declared.cmp.Ordering.TheVariants.{Less}
 use Rattle.float.specs.Choose.{min_of, max_of, clamp_of, total_of}
 use Rattle.float.specs.Narrow.{narrow_of}
 use Rattle.float.specs.Root.{sqrt_of}
