@@ -44,5 +44,5 @@ pub fn f64_at(s: &[u8], at: usize) -> f64
     requires { at + 8 ≤ length s.now }
     ensures { result ≡ f64_at s.now at }
 {
-    float::from_bits64(u64_at(s, at))
+    float::from_bits(u64_at(s, at))
 }

@@ -5,4 +5,4 @@ use borrow.Author.Rules.{rules}
 use Rattle.fields.proofs.f64_at.Goals as goal
 
 pub returns : goal.returns
-returns c = c.from_bits64.ensures ∙ ap (of_bits binary64) c.u64_at.ensures
+returns c = c.from_bits.ensures ∙ ap (of_bits binary64) c.u64_at.ensures
