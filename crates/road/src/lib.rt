@@ -55,7 +55,7 @@ fn fraction(stations: &[f64], i: usize, s: f64) -> f64
     ensures { result ≡ fraction_at stations.now i s }
 {
     let from = stations[i];
-    float::clamp64((s - from) / (stations[i + 1] - from), 0.0, 1.0)
+    float::clamp((s - from) / (stations[i + 1] - from), 0.0, 1.0)
 }
 
 // How far along a lane the road station s is, in metres from its first point.

@@ -5,4 +5,4 @@ use Rattle.road.proofs.fraction.Goals as goal
 
 pub returns : goal.returns
 unfolding fraction_at
-returns c = c.clamp64.ensures
+returns c = c.clamp.ensures
