@@ -70,7 +70,7 @@ fn bits_of(v: i64) -> usize
 pub fn millimetres(m: f64) -> usize
     ensures { result ≡ millimetres m }
 {
-    bits_of(float::saturating_f64_to_i64(float::round64(m * 1000.0)))
+    bits_of(float::saturating_f64_to_i64(float::round(m * 1000.0)))
 }
 
 // Which way the traffic runs along the centerline, for a branch that moves `up` it: 1 along it.

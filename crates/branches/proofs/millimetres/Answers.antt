@@ -15,6 +15,6 @@ unfolding millimetres
 returns c =
     let bits_of = c.bits_of in
     let saturating-f64-to-i64 = c.saturating_f64_to_i64 in
-    let round64 = c.round64 in
+    let round = c.round in
     bits_of.ensures ∙ ap (λ (z : ℤ). of_z w64 z)
-    (to_z-of_z {w = w64} (sfits_of saturating-f64-to-i64.type_inv) ∙ saturating-f64-to-i64.ensures ∙ ap (to_signed 63) round64.ensures)
+    (to_z-of_z {w = w64} (sfits_of saturating-f64-to-i64.type_inv) ∙ saturating-f64-to-i64.ensures ∙ ap (to_signed 63) round.ensures)
