@@ -190,7 +190,7 @@ fn give(
 fn end_arc(b: Branch, room: f64) -> f32
     ensures { result ≡ end_arc b room }
 {
-    let moved = float::nearest_f64_to_f32(float::min64(b.remaining, room));
+    let moved = float::nearest_f64_to_f32(float::min(b.remaining, room));
     if b.up {
         return b.arc + moved;
     }

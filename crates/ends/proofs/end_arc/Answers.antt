@@ -9,14 +9,14 @@ pub returns-then-b : goal.returns-then-b
 returns-then-b c =
     let if1 = c.if-b in
     let nearest-f64-to-f32 = c.nearest_f64_to_f32-moved in
-    let min64 = c.min64 in
+    let min = c.min in
     let args = c.args in
-    arc_up args.b args.room nearest-f64-to-f32.result (nearest-f64-to-f32.ensures ∙ ap narrow_of min64.ensures) if1.true
+    arc_up args.b args.room nearest-f64-to-f32.result (nearest-f64-to-f32.ensures ∙ ap narrow_of min.ensures) if1.true
 
 pub returns : goal.returns
 returns c =
     let if1 = c.if-b in
     let nearest-f64-to-f32 = c.nearest_f64_to_f32-moved in
-    let min64 = c.min64 in
+    let min = c.min in
     let args = c.args in
-    arc_down args.b args.room nearest-f64-to-f32.result (nearest-f64-to-f32.ensures ∙ ap narrow_of min64.ensures) if1.false
+    arc_down args.b args.room nearest-f64-to-f32.result (nearest-f64-to-f32.ensures ∙ ap narrow_of min.ensures) if1.false
