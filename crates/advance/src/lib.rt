@@ -35,7 +35,7 @@ fn first_branch(ahead: bool, i: usize, arc: f32, offset: f64, distance: f64, up:
         arc,
         up,
         left: offset * branches::side(ahead, up),
-        remaining: float::abs64(distance),
+        remaining: float::abs(distance),
     }
 }
 
@@ -334,7 +334,7 @@ pub fn advance(
     if !beside::is_in_section(bounds, j, s) {
         return refused(12);
     }
-    if !float::is_finite64(distance) {
+    if !float::is_finite(distance) {
         return refused(13);
     }
     let arc = arc_at(lanes, points, cumulative, sections, stations, i, j, s);

@@ -90,11 +90,11 @@ returns-then-not-is_in_section c =
     if1.false if2.false is-in-section.result is-in-section.ensures refused3.result refused3.ensures
     (if3.true)
 
-pub returns-then-not-is_finite64 : goal.returns-then-not-is_finite64
-returns-then-not-is_finite64 c =
-    let refused4 = c.refused-then-not-is_finite64 in
-    let if4 = c.if-not-is_finite64 in
-    let is-finite64 = c.is_finite64 in
+pub returns-then-not-is_finite : goal.returns-then-not-is_finite
+returns-then-not-is_finite c =
+    let refused4 = c.refused-then-not-is_finite in
+    let if4 = c.if-not-is_finite in
+    let is-finite = c.is_finite in
     let if3 = c.if-not-is_in_section in
     let is-in-section = c.is_in_section in
     let if2 = c.if-m-p in
@@ -107,7 +107,7 @@ returns-then-not-is_finite64 c =
     in
     query_endless t a.bounds.now a.from a.distance a.rows.now a.positions.now find_lane.result find_lane.ensures
     if1.false if2.false is-in-section.result is-in-section.ensures (if3.false)
-    is-finite64.result is-finite64.ensures refused4.result refused4.ensures (if4.true)
+    is-finite.result is-finite.ensures refused4.result refused4.ensures (if4.true)
 
 pub arc_at-arc-requires : goal.arc_at-arc-requires
 arc_at-arc-requires c =
@@ -122,8 +122,8 @@ pub returns : goal.returns
 returns c =
     let lend-arrays = c.lend_arrays in
     let arc-at = c.arc_at-arc in
-    let if4 = c.if-not-is_finite64 in
-    let is-finite64 = c.is_finite64 in
+    let if4 = c.if-not-is_finite in
+    let is-finite = c.is_finite in
     let if3 = c.if-not-is_in_section in
     let is-in-section = c.is_in_section in
     let if2 = c.if-m-p in
@@ -136,5 +136,5 @@ returns c =
     in
     query_answered t a.bounds.now a.from a.distance a.rows.now a.positions.now find_lane.result find_lane.ensures
     if1.false if2.false is-in-section.result is-in-section.ensures (if3.false)
-    is-finite64.result is-finite64.ensures (if4.false) lend-arrays.result _ _ arc-at.result
+    is-finite.result is-finite.ensures (if4.false) lend-arrays.result _ _ arc-at.result
     arc-at.ensures lend-arrays.ensures

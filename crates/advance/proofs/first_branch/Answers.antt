@@ -3,4 +3,4 @@ use borrow.Author.Rules.{rules}
 use Rattle.advance.proofs.first_branch.Goals as goal
 
 pub returns : goal.returns
-returns c = rw (c.side.ensures, c.abs64.ensures)
+returns c = rw (c.side.ensures, c.abs.ensures)
