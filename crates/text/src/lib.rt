@@ -104,7 +104,7 @@ fn double_field(x: f64, out: &mut [u8], at: usize) -> usize
     ensures { Puts (double_field x) at out.old out.new result × (result ≤ at + 17) }
 {
     out[at] = b' ';
-    let bits = float::to_bits64(x);
+    let bits = float::to_bits(x);
     let half = hex(bits / 0x1_0000_0000, out, at + 1);
     hex(bits % 0x1_0000_0000, out, half)
 }

@@ -28,7 +28,7 @@ shape_of-out c =
 pub returns : goal.returns
 unfolding double_field double_of
 returns c =
-    let bits = c.to_bits64-bits.ensures in
+    let bits = c.to_bits-bits.ensures in
     let high = c.hex-half.ensures in
     let low = c.hex.ensures in
     let a = c.args in
