@@ -12,7 +12,7 @@ use lib.IntN.{pos}
 use lib.Ieee.{Float, add, eq, fin, is_nan, lt, odd, of_bits, round, size, sum, units}
 use borrow.Author.Tests.{eqb-false}
 use Rattle.float.specs.Sign.{is_negative}
-use Rattle.float.specs.declared.choose.Order.TheVariants.{Greater}
+use Rattle.std.specs.declared.cmp.Ordering.TheVariants.{Greater}
 use Rattle.plan_format.specs.Plan.{index_of}
 use Rattle.plan_format.specs.Records.{Link}
 use Rattle.plan_format.specs.Tables.{linked}

@@ -16,8 +16,8 @@ use Rattle.exact.specs.Sums.{Cost, cost_lt}
 use Rattle.exact.specs.Values.{U, size_of}
 use Rattle.float.specs.Choose.{compare_bools, pick, total_of}
 use Rattle.float.specs.Sign.{is_negative}
-use Rattle.float.specs.declared.choose.Order.{Order}
-use Rattle.float.specs.declared.choose.Order.TheVariants.{Equal, Greater, Less}
+use Rattle.std.specs.declared.cmp.Ordering.{Ordering}
+use Rattle.std.specs.declared.cmp.Ordering.TheVariants.{Equal, Greater, Less}
 use Rattle.float_laws.specs.Compare.{neither_less}
 use Rattle.search.specs.LaneGraph.{f32_costs}
 use Rattle.search.specs.Search.{Costs}
@@ -34,7 +34,7 @@ module _ {C : Type 0} (K : Costs C) (L : Laws K) where
   NotBefore x e = (L.size e.cost ≤ L.size x.cost) × (L.size e.cost ≡ L.size x.cost → x.lane ≤ e.lane)
 
   -- among costs, the entries that are not greater than e are those that do not go before it
-  pub record Ordered (cmp : Entry C → Entry C → Order) : Type 0 where
+  pub record Ordered (cmp : Entry C → Entry C → Ordering) : Type 0 where
     pub not_before : (x e : Entry C) → L.Cost x.cost → L.Cost e.cost → cmp x e ≢ Greater → NotBefore x e
     pub not_greater : (x e : Entry C) → L.Cost x.cost → L.Cost e.cost → NotBefore x e → cmp x e ≢ Greater
 
@@ -111,12 +111,12 @@ module _ {C : Type 0} (K : Costs C) (L : Laws K) where
                     (λ m'. before_all x y F.entry (F.all y m') h) (Memᴰ.cases_cons m);
               }
 
-  pub record Popped (cmp : Entry C → Entry C → Order) (heap : List (Entry C)) : Type 0 where
+  pub record Popped (cmp : Entry C → Entry C → Ordering) (heap : List (Entry C)) : Type 0 where
     pub entry : Entry C
     pub rest : List (Entry C)
     pub pops : Pops cmp heap entry rest
 
-  pub heap_pops : (cmp : Entry C → Entry C → Order) → Ordered cmp → (heap : List (Entry C))
+  pub heap_pops : (cmp : Entry C → Entry C → Ordering) → Ordered cmp → (heap : List (Entry C))
       → ((x : Entry C) → Memᴰ x heap → L.Cost x.cost) → (heap ≡ []) ⊎ Popped cmp heap
   heap_pops cmp O heap costs = ⊎_elim (λ p. inl p) (λ F. inr (popped F)) (first_of heap)
     where
@@ -156,17 +156,17 @@ total_cost a b p q =
     go false true e f = refl
     go false false e f = rw (neither_less a b (positive a p).0 (positive b q).0 e f, (positive a p).1, (positive b q).1) refl
 
-abbrev pub is_greater : Order → Bool
+abbrev pub is_greater : Ordering → Bool
 is_greater Less = false
 is_greater Equal = false
 is_greater Greater = true
 
-pub not_greater : (o : Order) → is_greater o ≡ false → o ≢ Greater
+pub not_greater : (o : Ordering) → is_greater o ≡ false → o ≢ Greater
 not_greater o e p = true≢false (sym (ap is_greater p) ∙ e)
 
 -- by one number and, where that is the same, by another
 module _ (a b c d : ℕ) where
-  abbrev by_both : Bool → Bool → Bool → Bool → Order
+  abbrev by_both : Bool → Bool → Bool → Bool → Ordering
   by_both p q r s = then_with (pick p Less (pick q Greater Equal)) (pick r Less (pick s Greater Equal))
 
   abbrev AtMost : Type 0
@@ -198,7 +198,7 @@ module _ (a b c d : ℕ) where
 -- THE ORDER: `Ord for State` puts the smaller cost first, and among equals the larger number
 by_numbers : (x e : Entry Float) → Cost x.cost → Cost e.cost
     → compare_entries x e ≡ then_with (compare_numbers (size_of e.cost) (size_of x.cost)) (compare_numbers x.lane e.lane)
-by_numbers x e p q = ap (λ (o : Order). then_with o (compare_numbers x.lane e.lane)) (total_cost e.cost x.cost q p)
+by_numbers x e p q = ap (λ (o : Ordering). then_with o (compare_numbers x.lane e.lane)) (total_cost e.cost x.cost q p)
 
 pub entries_ordered : Ordered f32_costs f32_laws compare_entries
 unfolding f32_laws

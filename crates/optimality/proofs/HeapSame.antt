@@ -17,7 +17,7 @@ use lib.Dec.{ltb}
 use lib.ListN.{get_or-eq_default, get_or, get_or-replicate, length, length-replicate, replicate, set}
 use lib.Seq.{get_or-set_other}
 use borrow.Author.Tests.{eq-eqb, ltb-false, ltb-true, ne_eqb}
-use Rattle.float.specs.declared.choose.Order.{Order}
+use Rattle.std.specs.declared.cmp.Ordering.{Ordering}
 use Rattle.search.specs.Loops.{replicate_all}
 use Rattle.search.specs.Search.{Costs, Edge, Result, State, blank, dist_of, expanded, found, least_open, marked, rebuild, refused, run}
 use Rattle.search.specs.Search.{searched, settled}
@@ -35,7 +35,7 @@ use Rattle.optimality.proofs.Relaxing.{limit, settled_marks, size_at}
 module _ {C : Type 0} (K : Costs C) (L : Laws K) (num row_of : ℕ → ℕ) (edges out : ℕ → List (Edge C)) (size n start goal : ℕ)
     (few : n ≤ size) (in_start : start < n) (in-goal : goal < n)
     (N : Numbering n num row_of) (R : Restricts K L n num row_of edges out) (G : Linking K L out n)
-    (cmp : Entry C → Entry C → Order) (O : Ordered K L cmp) where
+    (cmp : Entry C → Entry C → Ordering) (O : Ordered K L cmp) where
   abbrev far : ℕ
   far = limit K L
 

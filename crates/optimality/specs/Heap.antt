@@ -7,8 +7,8 @@ use Rattle.std.proofs.Math.Option
 use Rattle.std.proofs.Math.Option.{Option, none, some}
 use Rattle.std.specs.Float.{nan}
 use Rattle.float.specs.Choose.{pick, total_of}
-use Rattle.float.specs.declared.choose.Order.{Order}
-use Rattle.float.specs.declared.choose.Order.TheVariants.{Equal, Greater, Less}
+use Rattle.std.specs.declared.cmp.Ordering.{Ordering}
+use Rattle.std.specs.declared.cmp.Ordering.TheVariants.{Equal, Greater, Less}
 use Rattle.plan_format.specs.Plan.{index_of}
 use Rattle.plan_format.specs.Records.{Link}
 use Rattle.plan_format.specs.Tables.{linked}
@@ -35,17 +35,17 @@ pub record Frontier (C : Type 0) : Type 0 where
 
 -- ---- `Ord for State`
 -- `usize::cmp`
-abbrev pub compare_numbers : ℕ → ℕ → Order
+abbrev pub compare_numbers : ℕ → ℕ → Ordering
 compare_numbers m n = pick (ltb m n) Less (pick (ltb n m) Greater Equal)
 
 -- `then_with`
-abbrev pub then_with : Order → Order → Order
+abbrev pub then_with : Ordering → Ordering → Ordering
 then_with Less o = Less
 then_with Equal o = o
 then_with Greater o = Greater
 
 -- the smaller cost by `total_cmp` is the greater entry; among equals the larger number
-abbrev pub compare_entries : Entry Float → Entry Float → Order
+abbrev pub compare_entries : Entry Float → Entry Float → Ordering
 compare_entries a b = then_with (total_of b.cost a.cost) (compare_numbers a.lane b.lane)
 
 -- ---- the heap
@@ -55,7 +55,7 @@ pub data Taken {C : Type 0} (e : Entry C) : List (Entry C) → List (Entry C) �
   later : {x : Entry C} {xs ys : List (Entry C)} → Taken e xs ys → Taken e (x ∷ xs) (x ∷ ys)
 
 -- `pop`: e is a greatest entry
-pub record Pops {C : Type 0} (cmp : Entry C → Entry C → Order) (heap : List (Entry C)) (e : Entry C) (rest : List (Entry C)) : Type 0 where
+pub record Pops {C : Type 0} (cmp : Entry C → Entry C → Ordering) (heap : List (Entry C)) (e : Entry C) (rest : List (Entry C)) : Type 0 where
   pub taken : Taken e heap rest
   pub greatest : (x : Entry C) → Memᴰ x heap → cmp x e ≢ Greater
 
@@ -105,7 +105,7 @@ module _ {C : Type 0} (K : Costs C) where
   abbrev pub skipped : Frontier C → List (Entry C) → Frontier C
   skipped f rest = front f.dist f.prev rest
 
-  module _ (cmp : Entry C → Entry C → Order) (edges : ℕ → List (Edge C)) (start goal : ℕ) where
+  module _ (cmp : Entry C → Entry C → Ordering) (edges : ℕ → List (Edge C)) (start goal : ℕ) where
     -- and with its lane expanded
     abbrev pub expanded_from : Frontier C → Entry C → List (Entry C) → Frontier C
     expanded_from f e rest = push_all e.lane e.cost (edges e.lane) (skipped f rest)
