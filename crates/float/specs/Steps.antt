@@ -48,9 +48,8 @@ pub record Nearest (n r : ℕ) : Type 0 where
   pub least : 8388608 ≤ r
   pub most : r ≤ 16777216
 
--- v is m * 2 ^ a, and m has 24 binary digits
-pub record Form (v m a : ℕ) : Type 0 where
-  pub same : m * 2 ^ a ≡ v
+-- m has 24 binary digits, and a is a power that a square of m * 2 ^ a can have
+pub record NormalRange (m a : ℕ) : Type 0 where
   pub least : 8388608 ≤ m
   pub most : m < 16777216
   pub from : 126 ≤ a

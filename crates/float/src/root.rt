@@ -2,7 +2,7 @@
 ghost use Rattle.std.specs.Prelude.{◌≡◌, ◌+◌, ◌-◌, ◌*◌, ◌/◌, ◌^◌, ◌<◌, ◌≤◌, from_bits};
 ghost use Rattle.std.specs.Float.{binary32};
 ghost use Rattle.float.specs.Root.{sqrt_of};
-ghost use Rattle.float.specs.Steps.{Wide, Whole, Nearest, Newton, Form, Square};
+ghost use Rattle.float.specs.Steps.{Wide, Whole, Nearest, Newton, NormalRange, Square};
 ghost use Rattle.exact.specs.Patterns.{units_of};
 
 // √t to about one in a hundred, by a straight line for each parity of its exponent.
@@ -19,9 +19,9 @@ fn guess(t: u64) -> u64
 
 // One of Newton's steps toward √n. It ends at the whole part or above, wherever it starts.
 fn newton(n: u64, g: u64) -> u64
-    requires fact_1 { 0 < g }
-    requires fact_2 { g < 4294967296 }
-    requires fact_3 { n < 281474976710656 }
+    requires nonzero { 0 < g }
+    requires small_guess { g < 4294967296 }
+    requires small_n { n < 281474976710656 }
     ensures { Newton n g result }
 {
     (g + n / g) / 2
@@ -50,18 +50,32 @@ fn nearest_root(n: u64) -> u64
     if n - q * q <= q { q } else { q + 1 }
 }
 
-// The number digits * 2 ^ power.
+// The number digits * 2 ^ power, with 24 binary digits in front.
 #[derive(Clone, Copy)]
 struct Normal {
     digits: u32,
     power: u32,
+    ghost range: { NormalRange digits power },
 }
 
-// t * 2 ^ 149 with 24 binary digits in front.
+impl Normal {
+    // The number without the even power of two that leaves 47 or 48 digits.
+    fn square(self) -> u64
+        ensures { Square (self.digits * 2 ^ self.power) result ((self.power - 23) / 2) }
+    {
+        if self.power % 2 == 0 {
+            self.digits as u64 * 16777216
+        } else {
+            self.digits as u64 * 8388608
+        }
+    }
+}
+
+// t * 2 ^ 149.
 fn scale(t: u32) -> Normal
-    requires fact_1 { 0 < t }
-    requires fact_2 { t < 8388608 }
-    ensures { Form (t * 2 ^ 149) result.digits result.power }
+    requires nonzero { 0 < t }
+    requires subnormal { t < 8388608 }
+    ensures { result.digits * 2 ^ result.power ≡ t * 2 ^ 149 }
 {
     let j = u32::leading_zeros(t) - 8;
     Normal {
@@ -72,9 +86,9 @@ fn scale(t: u32) -> Normal
 
 // The square of the root in units of 2 ^ -149: the value's own count of units, times 2 ^ 149.
 fn parts(b: u32) -> Normal
-    requires fact_1 { 0 < b }
-    requires fact_2 { b < 2139095040 }
-    ensures { Form (units_of binary32 b * 2 ^ 149) result.digits result.power }
+    requires nonzero { 0 < b }
+    requires finite { b < 2139095040 }
+    ensures { result.digits * 2 ^ result.power ≡ units_of binary32 b * 2 ^ 149 }
 {
     if b < 8388608 {
         return scale(b);
@@ -85,31 +99,15 @@ fn parts(b: u32) -> Normal
     }
 }
 
-// m * 2 ^ a without the even power of two that leaves 47 or 48 digits.
-fn square(m: u32, a: u32) -> u64
-    requires fact_1 { 8388608 ≤ m }
-    requires fact_2 { m < 16777216 }
-    requires fact_3 { 126 ≤ a }
-    ensures { Square (m * 2 ^ a) result ((a - 23) / 2) }
-{
-    if a % 2 == 0 {
-        m as u64 * 16777216
-    } else {
-        m as u64 * 8388608
-    }
-}
-
 // The pattern of the root of a finite value above zero, from that value's pattern.
 fn root_bits(b: u32) -> u32
-    requires fact_1 { 0 < b }
-    requires fact_2 { b < 2139095040 }
+    requires nonzero { 0 < b }
+    requires finite { b < 2139095040 }
     ensures { (result < 2139095040) × (from_bits binary32 result ≡ sqrt_of (from_bits binary32 b)) }
 {
     let p = parts(b);
-    let m = p.digits;
-    let a = p.power;
-    let r = nearest_root(square(m, a));
-    (a - 23) / 2 * 8388608 + r as u32
+    let r = nearest_root(p.square());
+    (p.power - 23) / 2 * 8388608 + r as u32
 }
 
 // A NaN has a NaN, the infinity itself, a zero itself, a number below zero a NaN.

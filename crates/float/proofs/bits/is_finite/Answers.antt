@@ -6,6 +6,6 @@ use Rattle.float.proofs.bits.is_finite.Goals as goal
 
 pub returns : goal.returns
 returns g c =
-    let r = g.T.Real in
-    let met = g.met.T.Real in
-    c.is_less.ensures ∙ ap₂ lt c.abs.ensures (ap r.float c.INFINITY.ensures ∙ met.infinity_law) ∙ finite_by _
+    c.is_less.ensures
+    ∙ ap₂ lt c.abs.ensures (ap g.T.Real.float c.INFINITY.ensures ∙ g.met.T.Real.infinity_law)
+    ∙ finite_by (g.T.Real.float c.args.x)

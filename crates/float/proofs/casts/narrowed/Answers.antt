@@ -61,8 +61,8 @@ returns-then-e-ge897 c = normal_of _ _ c.if-e-ge897.true c.if-e-ge1151.false c.n
 pub nearest_quotient-requires-then-e-ge873 : goal.nearest_quotient-requires-then-e-ge873
 nearest_quotient-requires-then-e-ge873 c = let e = c.args.a / 4503599627370496 in
     let s = shifted e c.if-e-ge873.true in record {
-      fact_1 = subst (λ (x : ℕ). 0 < x) (sym s) (pow_pos (926 - e));
-      fact_2 = subst (λ (x : ℕ). x ≤ 9007199254740992) (sym s)
+      nonzero = subst (λ (x : ℕ). 0 < x) (sym s) (pow_pos (926 - e));
+      small = subst (λ (x : ℕ). x ≤ 9007199254740992) (sym s)
           (pow_mono {i = 926 - e} {j = 53} (omega arith));
     }
 

@@ -14,7 +14,7 @@ small : (q : ℕ) → q % 2 ≤ 1
 small q = omega arith
 
 pub overflow_mul-r : goal.overflow_mul-r
-overflow_mul-r c = omega (arith, mod-lt c.args.m c.requires.fact_1)
+overflow_mul-r c = omega (arith, mod-lt c.args.m c.requires.nonzero)
 
 pub returns-then-r-u : goal.returns-then-r-u
 returns-then-r-u c =
@@ -27,7 +27,7 @@ overflow_add-result c =
     let m = c.args.m in
     let u = c.args.u in
     let t : u < m % u * 2 = c.if-u-r.true in
-    omega (arith, room m u c.requires.fact_1 (omega arith))
+    omega (arith, room m u c.requires.nonzero (omega arith))
 
 pub returns-then-u-r : goal.returns-then-u-r
 returns-then-u-r c =
@@ -39,7 +39,7 @@ pub overflow_add-result-2 : goal.overflow_add-result-2
 overflow_add-result-2 c =
     let m = c.args.m in
     let u = c.args.u in
-    omega (arith, room m u c.requires.fact_1 c.if-r-u.false, small (m / u))
+    omega (arith, room m u c.requires.nonzero c.if-r-u.false, small (m / u))
 
 pub returns : goal.returns
 returns c =

@@ -7,4 +7,4 @@ pub overflow_add-result : goal.overflow_add-result
 overflow_add-result c = omega (arith, div-le_self c.args.n c.args.g)
 
 pub returns : goal.returns
-returns c = record { above = newton_above c.args.n c.args.g c.requires.fact_1; least = omega arith; most = omega arith }
+returns c = record { above = newton_above c.args.n c.args.g c.requires.nonzero; least = omega arith; most = omega arith }

@@ -6,12 +6,12 @@ use Rattle.float.proofs.root.root_bits.Goals as goal
 pub returns : goal.returns
 returns c =
     let a = c.parts-p.result.power in
-    let form = c.parts-p.ensures in
     let sq = c.square.ensures in
     let R = c.nearest_root-r.ensures in
+    let range = c.parts-p.result.range in
     let few : (a - 23) / 2 ≤ 189 = omega arith in (
       in_range_law ((a - 23) / 2) c.nearest_root-r.result R.least R.most few,
       root_of_bits _
-          c.square.result ((a - 23) / 2) c.nearest_root-r.result c.requires.fact_1
-          c.requires.fact_2 (sq.same ∙ form.same) sq.wide R few,
+          c.square.result ((a - 23) / 2) c.nearest_root-r.result c.requires.nonzero
+          c.requires.finite (sq.same ∙ c.parts-p.ensures) sq.wide R few,
     )

@@ -32,7 +32,7 @@ returns-then-b-gt2147483648 c =
     ∙ negative (to_bits binary32 x) c.if-b-gt2147483648.true (bounded x held) (most c.before.before.before))
 
 pub root_bits-requires : goal.root_bits-requires
-root_bits-requires c = let l = most c.before.before.before in record { fact_1 = omega arith; fact_2 = omega arith }
+root_bits-requires c = let l = most c.before.before.before in record { nonzero = omega arith; finite = omega arith }
 
 pub float_from_bits-result : goal.float_from_bits-result
 float_from_bits-result c = no_nan_below binary32 c.root_bits.result (omega arith)

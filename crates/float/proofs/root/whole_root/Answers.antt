@@ -22,13 +22,13 @@ pub guess-requires : goal.guess-requires
 guess-requires c = omega arith
 
 pub newton-g-requires : goal.newton-g-requires
-newton-g-requires c = record { fact_1 = omega arith; fact_2 = omega arith; fact_3 = omega arith }
+newton-g-requires c = record { nonzero = omega arith; small_guess = omega arith; small_n = omega arith }
 
 pub overflow_mul-g : goal.overflow_mul-g
 overflow_mul-g c = omega (arith, first c)
 
 pub newton-r-requires : goal.newton-r-requires
-newton-r-requires c = let l = first c in record { fact_1 = omega arith; fact_2 = omega arith; fact_3 = omega arith }
+newton-r-requires c = let l = first c in record { nonzero = omega arith; small_guess = omega arith; small_n = omega arith }
 
 pub loop-r-init : goal.loop-r-init
 loop-r-init c =
