@@ -39,22 +39,6 @@ at_subnormal c =
 pub returns-then-e-ge1151 : goal.returns-then-e-ge1151
 returns-then-e-ge1151 c = record { most = lit≤ tt; same = infinite _ c.if-e-ge1151.true c.requires }
 
-pub overflow_add-result : goal.overflow_add-result
-overflow_add-result c =
-    omega (
-      arith,
-      (normal_of _ _ c.if-e-ge897.true c.if-e-ge1151.false
-          c.nearest_quotient.ensures).most,
-    )
-
-pub overflow_cast-result : goal.overflow_cast-result
-overflow_cast-result c =
-    omega (
-      arith,
-      (normal_of _ _ c.if-e-ge897.true c.if-e-ge1151.false
-          c.nearest_quotient.ensures).most,
-    )
-
 pub returns-then-e-ge897 : goal.returns-then-e-ge897
 returns-then-e-ge897 c = normal_of _ _ c.if-e-ge897.true c.if-e-ge1151.false c.nearest_quotient.ensures
 

@@ -1,14 +1,8 @@
 -- The whole part and a half is at most a exactly where a half or more is left; the sum is exact.
-use Rattle.std.proofs.Common.{ℕ, ◌+◌, pos, ap, arith}
+use Rattle.std.proofs.Common.{ℕ, pos, ap}
 use lib.Ieee.{binary64, of_int}
-use Rattle.float.proofs.Wholes.{in_float_law, half_by_law}
+use Rattle.float.proofs.Wholes.{half_by_law}
 use Rattle.float.proofs.whole.half_up.Goals as goal
-
-pub int_to_float-t : goal.int_to_float-t
-int_to_float-t c = in_float_law binary64 c.whole_part64-n.result (omega arith)
-
-pub int_to_float-result : goal.int_to_float-result
-int_to_float-result c = in_float_law binary64 (c.whole_part64-n.result + 1) (omega arith)
 
 pub returns-then-t-a : goal.returns-then-t-a
 returns-then-t-a c =

@@ -1,14 +1,8 @@
 -- The whole part is below a exactly where a fraction is left.
-use Rattle.std.proofs.Common.{ℕ, ◌+◌, pos, ap, arith}
+use Rattle.std.proofs.Common.{ℕ, pos, ap}
 use lib.Ieee.{binary32, of_int}
-use Rattle.float.proofs.Wholes.{in_float_law, up_by_law}
+use Rattle.float.proofs.Wholes.{up_by_law}
 use Rattle.float.proofs.whole.up.Goals as goal
-
-pub int_to_float-t : goal.int_to_float-t
-int_to_float-t c = in_float_law binary32 c.whole_part-n.result (omega arith)
-
-pub int_to_float-result : goal.int_to_float-result
-int_to_float-result c = in_float_law binary32 (c.whole_part-n.result + 1) (omega arith)
 
 pub returns-then-t-a : goal.returns-then-t-a
 returns-then-t-a c =
