@@ -12,7 +12,7 @@ down-requires c = small_abs 23 _ _ _ c.abs-a.ensures limit32 c.if-a.true
 pub returns-then-is_sign_negative : goal.returns-then-is_sign_negative
 unfolding ceil_of
 returns-then-is_sign_negative c =
-    minus_whole binary32 up_by down_by 23 _ _ _ c.abs-a.ensures (small_abs 23 _ _ _ c.abs-a.ensures limit32 c.if-a.true)
+    minus_whole binary32 up_by down_by 23 _ _ _ _ c.abs-a.ensures limit32 c.if-a.true
     (sym c.is_sign_negative.ensures ∙ c.if-is_sign_negative.true) c.down.ensures
 
 pub up-requires : goal.up-requires
@@ -21,7 +21,7 @@ up-requires c = small_abs 23 _ _ _ c.abs-a.ensures limit32 c.if-a.true
 pub returns-then-a : goal.returns-then-a
 unfolding ceil_of
 returns-then-a c =
-    plus_whole binary32 up_by down_by 23 _ _ _ c.abs-a.ensures (small_abs 23 _ _ _ c.abs-a.ensures limit32 c.if-a.true)
+    plus_whole binary32 up_by down_by 23 _ _ _ _ c.abs-a.ensures limit32 c.if-a.true
     (sym c.is_sign_negative.ensures ∙ c.if-is_sign_negative.false) c.up.ensures
 
 pub returns : goal.returns

@@ -12,7 +12,7 @@ up-requires c = small_abs 23 _ _ _ c.abs-a.ensures limit32 c.if-a.true
 pub returns-then-is_sign_negative : goal.returns-then-is_sign_negative
 unfolding floor_of
 returns-then-is_sign_negative c =
-    minus_whole binary32 down_by up_by 23 _ _ _ c.abs-a.ensures (small_abs 23 _ _ _ c.abs-a.ensures limit32 c.if-a.true)
+    minus_whole binary32 down_by up_by 23 _ _ _ _ c.abs-a.ensures limit32 c.if-a.true
     (sym c.is_sign_negative.ensures ∙ c.if-is_sign_negative.true) c.up.ensures
 
 pub down-requires : goal.down-requires
@@ -21,7 +21,7 @@ down-requires c = small_abs 23 _ _ _ c.abs-a.ensures limit32 c.if-a.true
 pub returns-then-a : goal.returns-then-a
 unfolding floor_of
 returns-then-a c =
-    plus_whole binary32 down_by up_by 23 _ _ _ c.abs-a.ensures (small_abs 23 _ _ _ c.abs-a.ensures limit32 c.if-a.true)
+    plus_whole binary32 down_by up_by 23 _ _ _ _ c.abs-a.ensures limit32 c.if-a.true
     (sym c.is_sign_negative.ensures ∙ c.if-is_sign_negative.false) c.down.ensures
 
 pub returns : goal.returns

@@ -12,7 +12,7 @@ half_up-requires c = small_abs 52 _ _ _ c.abs-a.ensures limit64 c.if-a.true
 pub returns-then-is_sign_negative : goal.returns-then-is_sign_negative
 unfolding round_of
 returns-then-is_sign_negative c =
-    minus_whole binary64 half_by half_by 52 _ _ _ c.abs-a.ensures (small_abs 52 _ _ _ c.abs-a.ensures limit64 c.if-a.true)
+    minus_whole binary64 half_by half_by 52 _ _ _ _ c.abs-a.ensures limit64 c.if-a.true
     (sym c.is_sign_negative.ensures ∙ c.if-is_sign_negative.true) c.half_up.ensures
 
 pub half_up-requires-then-a : goal.half_up-requires-then-a
@@ -21,7 +21,7 @@ half_up-requires-then-a c = small_abs 52 _ _ _ c.abs-a.ensures limit64 c.if-a.tr
 pub returns-then-a : goal.returns-then-a
 unfolding round_of
 returns-then-a c =
-    plus_whole binary64 half_by half_by 52 _ _ _ c.abs-a.ensures (small_abs 52 _ _ _ c.abs-a.ensures limit64 c.if-a.true)
+    plus_whole binary64 half_by half_by 52 _ _ _ _ c.abs-a.ensures limit64 c.if-a.true
     (sym c.is_sign_negative.ensures ∙ c.if-is_sign_negative.false) c.half_up-then-a.ensures
 
 pub returns : goal.returns
