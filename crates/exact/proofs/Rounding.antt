@@ -1,8 +1,8 @@
 -- The error of one rounding (specs/Rounding), of every fraction.
 use Rattle.std.proofs.Common.{sym, subst, arith}
-use Prim.Native.Nat.{ℕ, zero, suc, ◌-◌, ◌*◌, ◌^◌, ◌≤◌, ◌<◌}
+use Prim.Native.Nat.{ℕ, zero, suc, ◌*◌, ◌^◌, ◌≤◌, ◌<◌}
 use Rattle.std.specs.Float.Ieee.Order.{drop, kept}
-use Rattle.exact.specs.Rounding.{Near, near, kept_is, Err, dropped, none_dropped, same, looser}
+use Rattle.exact.specs.Rounding.{Near, kept_is, Err, dropped, none_dropped, same, looser}
 
 pub round_err : (n den : ℕ) → 0 < den → Err (kept 24 n den * 2 ^ drop 24 n den) den n (8388608 * den)
 round_err n den D = let x = kept_is 24 n den (omega arith) D in go (kept 24 n den) (drop 24 n den) x.near x.large

@@ -6,7 +6,7 @@
 use Rattle.std.specs.Prelude.{◌≡◌, ℕ, suc, ◌+◌, ◌*◌, ◌^◌, ◌≤◌, ◌<◌, false, Float}
 use Rattle.std.proofs.Common.{sym, ap, ◌∙◌, subst, inl, inr, le_refl, le_trans, le_of_eq, lt_irrefl, lt_of_le_of_lt, lt_of_lt_of_le, add-le-add, le-add_right, mul-le-mul_right, suc-mul, lit≤}
 use Rattle.std.specs.Float.{inf, binary32}
-use Rattle.std.specs.Float.Ieee.{units, add}
+use Rattle.std.specs.Float.Ieee.{add}
 use Rattle.std.specs.Float.Ieee.Fits.{round-fits}
 use Rattle.std.specs.Float.Ieee.Exact.{HasValue}
 use Rattle.std.specs.Float.Ieee.Scale.{grid}

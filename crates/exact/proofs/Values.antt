@@ -1,8 +1,8 @@
 -- What `round` makes of a fraction, and its error; a fraction below 2 ^ 127 does not overflow.
-use Rattle.std.specs.Prelude.{◌≡◌, ℕ, ◌-◌, ◌*◌, ◌^◌, ◌<◌, Bool, T}
+use Rattle.std.specs.Prelude.{◌≡◌, ℕ, ◌*◌, ◌^◌, ◌<◌, Bool, T}
 use Rattle.std.proofs.Common.{sym, ◌∙◌, subst, lt_of_lt_of_le, le_of_eq, mul_right_comm, mul-lt-mul_of_pos_right, le_of_mul-le-mul_right, arith, pow_pos}
 use Rattle.std.specs.Float.{binary32}
-use Rattle.std.specs.Float.Ieee.{units, round}
+use Rattle.std.specs.Float.Ieee.{round}
 use Rattle.std.specs.Float.Ieee.Order.{drop, kept}
 use Rattle.std.specs.Float.Ieee.Scale.{grid, finite}
 use Rattle.exact.specs.Rounding.{Err}

@@ -1,10 +1,11 @@
 -- A solver for equations of commutative rings over the integers, by reflection: `ring 3 (λ a b c. l := r) tt a b c`.
 -- It holds where the normal form of l - r is zero. A polynomial is a list of terms, (k - l) times a monomial; a monomial is the sorted
 -- list of the places of its variables in ρ.
-use Rattle.std.specs.Prelude.{◌≡◌, refl, List, [], ◌∷◌, Bool, true, false, ◌&&◌, T, eqb}
+use Rattle.std.specs.Prelude.{◌≡◌, refl, List, [], ◌∷◌, Bool, true, ◌&&◌, T, eqb}
 use Rattle.std.proofs.Common.{sym, ap, ap₂, subst, arith, eqb→eq}
 use Prim.Native.Nat.{ℕ, zero, suc, ◌+◌, ◌*◌, compare, Ordering}
 use Rattle.std.proofs.Math.Dec.{compare_is_eq}
+use Rattle.std.specs.Float.Ieee.Fits.{and_l, and_r}
 use Rattle.exact.specs.Integers.{Z, ◌≈◌, ◌⊞◌, ◌⊟◌, ◌⊠◌, ◌·◌, ⊖, ι, ≈_refl, ≈_sym, ≈_trans, times_zero, zero_times, one_times, ⊞_cong}
 use Rattle.exact.specs.Integers.{⊟_cong, ⊖_cong, ⊠_cong, ⊠_assoc, ⊠_⊞}
 
@@ -297,14 +298,6 @@ norm_ok (a :- b) ρ =
 norm_ok (a :* b) ρ = ≈_trans (pmul_ok (norm a) (norm b) ρ) (⊠_cong (norm_ok a ρ) (norm_ok b ρ))
 norm_ok (neg a) ρ = ≈_trans (pneg_ok (norm a) ρ) (⊖_cong (norm_ok a ρ))
 norm_ok (k :· a) ρ = ≈_trans (pscale_ok k (norm a) ρ) (·_cong k (norm_ok a ρ))
-
-pub and_l : (a b : Bool) → T (a && b) → T a
-and_l true b t = tt
-and_l false b t = t
-
-pub and_r : (a b : Bool) → T (a && b) → T b
-and_r true b t = t
-and_r false b t = absurd t
 
 cancel : (k l : ℕ) (x : Z) → k ≡ l → c k l ⊠ x ≈ ι 0
 unfolding c ◌⊠◌ ι
