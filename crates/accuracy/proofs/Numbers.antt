@@ -7,11 +7,11 @@ use Prim.Native.Nat.{ℕ, zero, suc, ◌+◌, ◌-◌, ◌*◌}
 use lib.Dec.{T, ltb}
 use lib.ListN.{get_or}
 use lib.Ieee.{Float, nan, inf, fin, Format, binary32, up, down, round, neg, sum, add, sub, mul, lt, is_nan}
+use lib.Ieee.Fits.{and_l, and_r}
 use lib.Ieee.Scale.{finite}
 use Rattle.coords.specs.declared.Point.{Point}
 use Rattle.coords.specs.declared.Vector.{Vector}
 use Rattle.coords.specs.Coords.{finite_point, sub_of, length_squared}
-use Rattle.exact.specs.Ring.{and_l, and_r}
 use Rattle.float.specs.Sign.{is_negative}
 use Rattle.float_laws.proofs.Narrow.{round_sign}
 use Rattle.geometry.specs.declared.Nearer.{Nearer}
