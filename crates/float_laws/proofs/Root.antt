@@ -19,7 +19,7 @@ use Rattle.exact.specs.Naturals.{le_of_not_lt, lt_or_le, size_gt}
 use Rattle.exact.specs.Fits.{Representable, representable, whole_steps}
 use Rattle.exact.specs.Patterns.{one_value}
 use Rattle.float.specs.Root.{whole, sqrt_of}
-use Rattle.float.specs.Steps.{Wide, Nearest, Form, Square}
+use Rattle.float.specs.Steps.{Wide, Nearest, NormalRange, Square}
 use Rattle.float.proofs.Squares.{square_le, root_lt, root_le}
 use Rattle.float.proofs.Scaling.{regroup}
 use Rattle.float.proofs.WholeRoot.{IsWhole, whole_size}
@@ -29,8 +29,8 @@ use Rattle.float_laws.specs.Nearest.{Units}
 use Rattle.float_laws.specs.Root.{Closest, WithinHalf}
 
 -- ---- the square of the root of an f32 above zero, in units, as the steps of `sqrt` have it: m * 2 ^ a, and n * 4 ^ k
-form : (n : ℕ) → Representable binary32 n → 0 < n → (m : ℕ) × (a : ℕ) × Form (n * 2 ^ 149) m a
-form n R N = (m * 2 ^ (24 - s), j + 125 + s, record { same = same; least = least; most = most; from = from s_pos; to = to })
+form : (n : ℕ) → Representable binary32 n → 0 < n → (m : ℕ) × (a : ℕ) × (m * 2 ^ a ≡ n * 2 ^ 149) × NormalRange m a
+form n R N = (m * 2 ^ (24 - s), j + 125 + s, same, record { least = least; most = most; from = from s_pos; to = to })
   where
     m : ℕ
     m = R.m
@@ -84,8 +84,8 @@ form n R N = (m * 2 ^ (24 - s), j + 125 + s, record { same = same; least = least
         less : j + 125 + s < 403 → j + 125 + s ≤ 402
         less g = omega arith
 
-square : (v m a : ℕ) → Form v m a → (n : ℕ) × (k : ℕ) × Square v n k × (k ≤ 189)
-square v m a F = go (lt_or_le (a % 2) 1)
+square : (v m a : ℕ) → m * 2 ^ a ≡ v → NormalRange m a → (n : ℕ) × (k : ℕ) × Square v n k × (k ≤ 189)
+square v m a e F = go (lt_or_le (a % 2) 1)
   where
     few : (a - 23) / 2 ≤ 189
     few = let h = F.to in omega arith
@@ -97,7 +97,7 @@ square v m a F = go (lt_or_le (a % 2) 1)
           (a - 23) / 2,
           record {
             same = regroup m 16777216 24 ((a - 23) / 2) a refl (omega arith)
-                ∙ F.same;
+                ∙ e;
             wide = let x = F.least in let y = F.most in omega arith;
           },
           few,
@@ -108,7 +108,7 @@ square v m a F = go (lt_or_le (a % 2) 1)
           (a - 23) / 2,
           record {
             same = regroup m 8388608 23 ((a - 23) / 2) a refl (omega arith)
-                ∙ F.same;
+                ∙ e;
             wide = let x = F.least in let y = F.most in omega arith;
           },
           few,
@@ -164,7 +164,7 @@ pub root_within_half : (x : Float) (n : ℕ) → T (fits binary32 x) → Units b
     → (r : ℕ) × (k : ℕ) × WithinHalf (n * 2 ^ 149) (sqrt_of x) r k
 root_within_half x n t h N =
     let F = form n (representable binary32 x false n t h) N in
-    let Q = square (n * 2 ^ 149) F.0 F.1 F.2 in
+    let Q = square (n * 2 ^ 149) F.0 F.1 F.2 F.3 in
     let s = Q.0 in
     let k = Q.1 in
     let S = Q.2 in

@@ -1,5 +1,5 @@
 -- Comparisons of numbers: one of less, equal, greater holds; equality is the same value; a minus turns the order.
-use Rattle.std.specs.Prelude.{◌≡◌, ◌⊎◌, Bool, ◌&&◌, ◌||◌, ℕ, zero, ◌+◌, ◌*◌, ◌<◌, ℤ, T, ltb, eqb, Float}
+use Rattle.std.specs.Prelude.{◌≡◌, ◌⊎◌, Bool, ◌&&◌, ◌||◌, ℕ, ◌+◌, ◌*◌, ◌<◌, ℤ, T, ltb, eqb, Float}
 use Rattle.std.proofs.Math.Path.{refl, sym, ap}
 use Rattle.std.proofs.Common.{◌∙◌, subst, true≢false, add_comm, mul-one, arith, le-ltb, ltb-true, ltb-false, eqb-true, eq-eqb}
 use Rattle.std.proofs.Math.Logic.{inl, inr}
