@@ -1,4 +1,4 @@
-// The functions of `float` for Rust or C to link, each with its contract.
+// The functions of `float` for Rust or C to link, each with its contract. C has a name for each type: the suffix 64 is for an f64.
 #![tactic(auto)]
 
 ghost use Rattle.std.specs.Prelude.{◌≡◌, pos};
