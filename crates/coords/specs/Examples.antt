@@ -2,7 +2,6 @@
 use Rattle.std.specs.Prelude.{◌≡◌, refl, false, ℕ, Float}
 use Rattle.std.specs.Float.{binary32}
 use Rattle.std.specs.Float.Ieee.{of_bits, add, sub, mul, div, lt}
-use Rattle.std.specs.Float.Ieee.Scale.{finite}
 use Rattle.float.specs.Root.{sqrt_of}
 use Rattle.coords.specs.declared.Point.{Point}
 use Rattle.coords.specs.declared.Vector.{Vector}
@@ -26,16 +25,16 @@ three_four_five = refl
 
 -- and at unit length it is (0.6, 0.8, 0), each rounded from 3 * (1 / 5) and 4 * (1 / 5)
 at_unit_length : normalize_or (vector 0x40400000 0x40800000 0) zero_vector ≡ vector 0x3f19999a 0x3f4ccccd 0
-unfolding vector normalize_or length_of sqrt_of finite of_bits add mul div lt
+unfolding vector normalize_or length_of sqrt_of of_bits add mul div lt
 at_unit_length = refl
 
 -- nothing has no direction, and 2^100 metres have none that f32 can tell: the fallback is given, signs of zeros and all
 none_at_zero : normalize_or (vector 0 0x80000000 0) (vector 0x3f800000 0x80000000 0) ≡ vector 0x3f800000 0x80000000 0
-unfolding vector normalize_or length_of sqrt_of finite of_bits add mul div lt
+unfolding vector normalize_or length_of sqrt_of of_bits add mul div lt
 none_at_zero = refl
 
 none_past_the_range : normalize_or (vector 0x71800000 0 0) (vector 0 0x3f800000 0) ≡ vector 0 0x3f800000 0
-unfolding vector normalize_or length_of sqrt_of finite of_bits add mul div lt
+unfolding vector normalize_or length_of sqrt_of of_bits add mul div lt
 none_past_the_range = refl
 
 -- x cross y is z
@@ -58,5 +57,5 @@ unfolding point of_bits add sub mul
 a_quarter = refl
 
 one_infinite : finite_point (point 0 0x7f800000 0) ≡ false
-unfolding point finite of_bits
+unfolding point of_bits
 one_infinite = refl
