@@ -1,21 +1,17 @@
 -- Worked cases: what the definitions answer on small polylines, by computation.
-use Rattle.std.specs.Prelude.{◌≡◌, refl, true, List, [], ◌∷◌, ℕ, Float}
+use Rattle.std.specs.Prelude.{◌≡◌, refl, Option, None, Some, List, [], ◌∷◌, ℕ, Float}
 use Rattle.std.specs.Float.{nan, binary32}
 use Rattle.std.specs.Float.Ieee.{add, sub, mul, div, lt, le, of_bits}
 use Rattle.float.specs.Root.{sqrt_of}
 use Rattle.coords.specs.declared.Point.{Point}
 use Rattle.coords.specs.declared.Vector.{Vector}
 use Rattle.coords.specs.Coords.{zero_vector, cross_of, length_of, normalize_or}
-use Rattle.geometry.specs.declared.Pose.{Pose}
 use Rattle.geometry.specs.declared.Located.{Located}
-use Rattle.geometry.specs.declared.Projection.{Projection}
 use Rattle.geometry.specs.declared.Ends.{Ends}
-use Rattle.geometry.specs.declared.Nearer.{Nearer}
 use Rattle.geometry.specs.Polyline.{point_at, vector_at, arc_at, cumulative_of, chord_at, end_or, tangents_to, tangents_of}
 use Rattle.geometry.specs.Partition.{leading}
 use Rattle.geometry.specs.Locate.{segment_of, local_t, locate_of, point_along, pose_along}
 use Rattle.geometry.specs.Project.{left_normal, fraction_along, hit_along, nearer_at, project_to, project_segments, project_of}
-use Rattle.std.specs.Prelude.{false}
 use Rattle.geometry.specs.Polyline.{tangent_at}
 
 abbrev f : ℕ → Float
@@ -118,8 +114,8 @@ unfolding project_segments project_to nearer_at hit_along fraction_along left_no
     mul div lt of_bits
 second_only = refl
 
-abbrev turned : Ends
-turned = record { given = true; start = record { x = o; y = eight; z = eight }; end = zero_vector }
+abbrev turned : Option Ends
+turned = Some (record { start = record { x = o; y = eight; z = eight }; end = zero_vector })
 
 -- the bisector at the corner; a given start at unit length on the ground; a zero end falls back to the chord
 corner_tangents : tangents_of corner 3 turned ≡ o ∷ one ∷ o ∷ f 0x3f3504f3 ∷ f 0x3f3504f3 ∷ o ∷ o ∷ one ∷ o ∷ []
@@ -137,8 +133,8 @@ corner_pose = refl
 abbrev toward : Float → Float → Vector
 toward x y = record { x = x; y = y; z = o }
 
-abbrev ended : Ends
-ended = record { given = true; start = zero_vector; end = record { x = eight; y = o; z = eight } }
+abbrev ended : Option Ends
+ended = Some (record { start = zero_vector; end = record { x = eight; y = o; z = eight } })
 
 -- a given start at unit length on the ground, the bisector at the corner; a zero end falls back to the chord
 corner_start : tangent_at corner 3 turned 0 ≡ toward o one
@@ -162,18 +158,15 @@ other_end : tangent_at corner 3 ended 2 ≡ toward one o
 unfolding end_or chord_at normalize_or length_of sqrt_of point_at add sub mul div lt of_bits
 other_end = refl
 
--- a chord is dropped onto the ground, and tangents that are not given do not count
-abbrev kept : Ends
-kept = record { given = false; start = toward o eight; end = toward o eight }
-
+-- a chord is dropped onto the ground, and stands at the ends where no tangents are given
 abbrev ramp : List Float
 ramp = o ∷ o ∷ o ∷ eight ∷ o ∷ eight ∷ []
 
-ramp_start : tangent_at ramp 2 kept 0 ≡ toward one o
+ramp_start : tangent_at ramp 2 None 0 ≡ toward one o
 unfolding end_or chord_at normalize_or length_of sqrt_of point_at add sub mul div lt of_bits
 ramp_start = refl
 
-ramp_end : tangent_at ramp 2 kept 1 ≡ toward one o
+ramp_end : tangent_at ramp 2 None 1 ≡ toward one o
 unfolding end_or chord_at normalize_or length_of sqrt_of point_at add sub mul div lt of_bits
 ramp_end = refl
 

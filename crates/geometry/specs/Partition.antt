@@ -1,8 +1,10 @@
--- Rust's `partition_point`: how many entries at the front of a list pass a test. Definitions, and the laws a binary search for it stands on.
+-- Rust's `partition_point`: how many entries at the front of a list pass a test. Definitions, and what ties them to std's.
 use Rattle.std.specs.Prelude.{◌≡◌, refl, Bool, true, false, cond, T, length, get_or, Float}
-use Rattle.std.proofs.Common.{sym, subst, suc-le-suc, arith}
+use Rattle.std.proofs.Common.{sym, ap, subst, suc-le-suc, arith}
+use Rattle.std.proofs.lemmas.List.{get_or_default}
+use Rattle.std.specs.List.Sorted.{IsPartitionPoint, IsPartitionedBy}
 use mathlib.Core.List.{List, [], ◌∷◌}
-use Prim.Native.Nat.{ℕ, zero, suc, ◌+◌, ◌≤◌, ◌<◌, zero-le}
+use Prim.Native.Nat.{ℕ, zero, suc, ◌≤◌, ◌<◌, zero-le}
 use Rattle.std.specs.Float.{nan}
 use Rattle.std.specs.Float.Ieee.{le}
 use Rattle.geometry.specs.Order.{le_trans}
@@ -20,7 +22,7 @@ at_most s x = le x s
 pub record Rising (xs : List Float) : Type 0 where
   pub step : (i : ℕ) → suc i < length xs → T (le (get_or xs i nan) (get_or xs (suc i) nan))
 
--- ---- where a binary search stands
+-- ---- tests that pass at the front
 
 -- a test that what is less passes with what is more
 abbrev pub Falling : (Float → Bool) → Type 0
@@ -68,23 +70,24 @@ module _ (passes : Float → Bool) where
     leading_goes_on (x ∷ xs) (suc k) r h e =
         rw (first_passes x xs k r (omega arith) e) (suc-le-suc (leading_goes_on xs k (rising_rest r) (omega arith) e))
 
--- where a binary search stands: the number of leading entries that pass is at least `from` and at most `to`
-pub record Between (passes : Float → Bool) (xs : List Float) (from to : ℕ) : Type 0 where
-  pub least : from ≤ leading passes xs
-  pub most : leading passes xs ≤ to
-  pub inside : to ≤ length xs
+-- ---- std's `partition_point`: where entries that pass come first, it answers how many they are
+pub leading_is : (passes : Float → Bool) (xs : List Float) (n : ℕ) → n ≤ length xs
+    → IsPartitionPoint (λ y. passes y ≡ true) (λ y. passes y ≡ false) xs n → n ≡ leading passes xs
+unfolding leading
+leading_is passes [] n h p = omega arith
+leading_is passes (x ∷ xs) zero h p = rw (p.1 0 nan zero-le (omega arith)) refl
+leading_is passes (x ∷ xs) (suc n) h p =
+    rw (p.0 0 nan zero-le (omega arith))
+    (ap suc (leading_is passes xs n (omega arith)
+    ((λ k d l m. p.0 (suc k) d zero-le (omega arith)), (λ k d l m. p.1 (suc k) d (omega arith) (omega arith)))))
 
-module _ (passes : Float → Bool) (xs : List Float) where
-  pub between_start : Between passes xs 0 (length xs)
-  between_start = record { least = zero-le; most = leading_length passes xs; inside = omega arith }
+pub rising_partitioned : (passes : Float → Bool) → Falling passes → (xs : List Float) → Rising xs → IsPartitionedBy passes xs
+rising_partitioned passes falling xs rises i j d before inside passed =
+    rw (get_or_default xs i d nan (omega arith)) (by (passes (get_or xs i nan)) refl)
+  where
+    on : j < leading passes xs
+    on = leading_goes_on passes falling xs j rises inside (rw (get_or_default xs j d nan inside) at passed)
 
-  pub between_right : Falling passes → Rising xs → {from to : ℕ} (mid : ℕ) → Between passes xs from to → mid < to → passes
-      (get_or xs mid nan) ≡ true
-      → Between passes xs (mid + 1) to
-  between_right f r mid b h e =
-      let on = leading_goes_on passes f xs mid r (omega arith) e in
-      record { least = omega arith; most = b.most; inside = b.inside }
-
-  pub between_left : {from to : ℕ} (mid : ℕ) → Between passes xs from to → mid < to → passes (get_or xs mid nan) ≡ false
-      → Between passes xs from mid
-  between_left mid b h e = record { least = b.least; most = leading_stops passes xs mid (omega arith) e; inside = omega arith }
+    by : (b : Bool) → passes (get_or xs i nan) ≡ b → b ≡ true
+    by true e = refl
+    by false e = absurd (omega (arith, on, leading_stops passes xs i (omega arith) e))

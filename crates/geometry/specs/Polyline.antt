@@ -1,6 +1,6 @@
 -- geometry.rs, `Polyline::build`: a lane's polyline over the flat list of its points, as its record in the plan file has them
 -- (x y z of each): the arc length at each point and the tangents. Definitions only.
-use Rattle.std.specs.Prelude.{◌≡◌, cond, ◌&&◌, List, [], ◌∷◌, ◌++◌, ℕ, zero, suc, ◌+◌, ◌-◌, ◌*◌, ◌≤◌, ltb, eqb, length, get_or, set, Float}
+use Rattle.std.specs.Prelude.{◌≡◌, cond, Option, None, Some, List, [], ◌∷◌, ◌++◌, ℕ, zero, suc, ◌+◌, ◌-◌, ◌*◌, ◌≤◌, ltb, eqb, length, get_or, set, Float}
 use Rattle.std.specs.Float.{nan, binary32}
 use Rattle.std.specs.Float.Ieee.{add}
 use Rattle.coords.specs.declared.Point.{Point}
@@ -66,19 +66,19 @@ unfoldable pub chord_at : List Float → ℕ → ℕ → Vector
 chord_at ps n i = normalize_or (plus_of (incoming_at ps i) (outgoing_at ps n i)) zero_vector
 
 -- a given end tangent at the two ends where it has a direction, and the chord elsewhere
-unfoldable pub end_or : Vector → Ends → ℕ → ℕ → Vector
-end_or chord e n i =
-    cond (e.given && eqb i 0) (normalize_or (horizontal e.start) chord)
-    (cond (e.given && eqb i (n - 1)) (normalize_or (horizontal e.end) chord) chord)
+unfoldable pub end_or : Vector → Option Ends → ℕ → ℕ → Vector
+end_or chord None n i = chord
+end_or chord (Some e) n i =
+    cond (eqb i 0) (normalize_or (horizontal e.start) chord) (cond (eqb i (n - 1)) (normalize_or (horizontal e.end) chord) chord)
 
 -- `vertex_tangents` at point i of n
-abbrev pub tangent_at : List Float → ℕ → Ends → ℕ → Vector
+abbrev pub tangent_at : List Float → ℕ → Option Ends → ℕ → Vector
 tangent_at ps n e i = end_or (chord_at ps n i) e n i
 
 -- the tangents at the points 0 .. k - 1 of n, x y z of each
-unfoldable pub tangents_to : List Float → ℕ → Ends → ℕ → List Float
+unfoldable pub tangents_to : List Float → ℕ → Option Ends → ℕ → List Float
 tangents_to ps n e zero = []
 tangents_to ps n e (suc k) = let t = tangent_at ps n e k in tangents_to ps n e k ++ (t.x ∷ t.y ∷ t.z ∷ [])
 
-abbrev pub tangents_of : List Float → ℕ → Ends → List Float
+abbrev pub tangents_of : List Float → ℕ → Option Ends → List Float
 tangents_of ps n e = tangents_to ps n e n

@@ -1,5 +1,5 @@
 -- What stands in the lists of arc lengths and of tangents.
-use Rattle.std.specs.Prelude.{◌≡◌, refl, true, false, List, [], ◌∷◌, ◌++◌, ℕ, zero, suc, ◌+◌, ◌-◌, ◌*◌, ◌<◌, length, get_or, set, Float}
+use Rattle.std.specs.Prelude.{◌≡◌, refl, Option, None, Some, List, [], ◌∷◌, ◌++◌, ℕ, zero, suc, ◌+◌, ◌-◌, ◌*◌, ◌<◌, length, get_or, set, Float}
 use Rattle.std.proofs.Common.{sym, ap, ◌∙◌, ⊎_elim, arith, add-one, length-append}
 use borrow.Author.Tests.{lt-ltb, eq-eqb, ne_eqb}
 use Rattle.std.proofs.Math.ListN.{get_or-append}
@@ -43,7 +43,7 @@ cumulative_next ps old out k v h e is =
     (ap (λ (o : List Float). set o k v) e ∙ over_next (cumulative_of ps k) old k v (length_cumulative ps k) h
     ∙ ap (λ (a : Float). over (cumulative_of ps k ++ (a ∷ [])) old) is)
 
-pub length_tangents : (ps : List Float) (n : ℕ) (e : Ends) (k : ℕ) → length (tangents_to ps n e k) ≡ 3 * k
+pub length_tangents : (ps : List Float) (n : ℕ) (e : Option Ends) (k : ℕ) → length (tangents_to ps n e k) ≡ 3 * k
 unfolding tangents_to
 length_tangents ps n e zero = refl
 length_tangents ps n e (suc k) = simp length-append (omega (arith, length_tangents ps n e k))
@@ -55,7 +55,7 @@ incoming_next ps n i h =
     rw (lt-ltb (i + 1) n h, lt-ltb 0 (i + 1) (omega arith), here)
 
 -- the first k tangents stand in `out`, and the next is written
-pub tangents_next : (ps : List Float) (n : ℕ) (e : Ends) (old out : List Float) (k : ℕ) (t : Vector) → 3 * k + 2 < length old
+pub tangents_next : (ps : List Float) (n : ℕ) (e : Option Ends) (old out : List Float) (k : ℕ) (t : Vector) → 3 * k + 2 < length old
     → out ≡ over (tangents_to ps n e k) old
     → t ≡ tangent_at ps n e k → with_vector out k t ≡ over (tangents_to ps n e (k + 1)) old
 unfolding tangents_to
@@ -66,19 +66,19 @@ tangents_next ps n e old out k t h same is =
     (λ (j : ℕ). over (tangents_to ps n e j) old) (sym (add-one k))
 
 -- what the tests of `end_or` decide
-module _ (chord : Vector) (e : Ends) (n i : ℕ) where
-  pub start_given : e.given ≡ true → i ≡ 0 → normalize_or (horizontal e.start) chord ≡ end_or chord e n i
+module _ (chord : Vector) (n i : ℕ) where
+  pub start_given : (e : Ends) → i ≡ 0 → normalize_or (horizontal e.start) chord ≡ end_or chord (Some e) n i
   unfolding end_or
-  start_given g h = simp (g, eq-eqb i 0 h)
+  start_given e h = simp (eq-eqb i 0 h)
 
-  pub end_given : e.given ≡ true → (i ≡ 0 → ⊥) → i ≡ n - 1 → normalize_or (horizontal e.end) chord ≡ end_or chord e n i
+  pub end_given : (e : Ends) → (i ≡ 0 → ⊥) → i ≡ n - 1 → normalize_or (horizontal e.end) chord ≡ end_or chord (Some e) n i
   unfolding end_or
-  end_given g h k = simp (g, ne_eqb i 0 h, eq-eqb i (n - 1) k)
+  end_given e h k = simp (ne_eqb i 0 h, eq-eqb i (n - 1) k)
 
-  pub between_ends : e.given ≡ true → (i ≡ 0 → ⊥) → (i ≡ n - 1 → ⊥) → chord ≡ end_or chord e n i
+  pub between_ends : (e : Ends) → (i ≡ 0 → ⊥) → (i ≡ n - 1 → ⊥) → chord ≡ end_or chord (Some e) n i
   unfolding end_or
-  between_ends g h k = simp (g, ne_eqb i 0 h, ne_eqb i (n - 1) k)
+  between_ends e h k = simp (ne_eqb i 0 h, ne_eqb i (n - 1) k)
 
-  pub none_given : e.given ≡ false → chord ≡ end_or chord e n i
+  pub none_given : chord ≡ end_or chord None n i
   unfolding end_or
-  none_given g = simp g
+  none_given = refl

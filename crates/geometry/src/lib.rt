@@ -1,11 +1,12 @@
 // geometry.rs: a lane's polyline, queried by arc length. It stands in parts of the flat tables: `points` (x y z of each),
 // `cumulative` (the arc length at each point) and `tangents` (x y z at each). `specs/` says what each function answers.
+// What needs the points alone, or the arc lengths alone, takes that list; what needs both is a method of `Polyline`.
 #![tactic(auto)]
 
-ghost use Rattle.std.specs.Prelude.{◌≡◌, ◌+◌, ◌*◌, ◌-◌, ◌<◌, ◌≤◌, length};
+ghost use Rattle.std.specs.Prelude.{◌≡◌, ◌+◌, ◌*◌, ◌<◌, ◌≤◌, length};
 ghost use Rattle.geometry.specs.Polyline.{Line, point_at, vector_at, segment_length, cumulative_of, arc_length};
 ghost use Rattle.geometry.specs.Polyline.{horizontal, direction_of, outgoing_at, end_or, with_vector, tangents_of};
-ghost use Rattle.geometry.specs.Partition.{leading, at_most, Rising};
+ghost use Rattle.geometry.specs.Partition.{Rising};
 ghost use Rattle.geometry.specs.Locate.{segment_of, local_t, locate_of, place_on, heading_on, point_along, pose_along};
 ghost use Rattle.geometry.specs.Project.{left_normal, fraction_along, hit_along, nearer_at, project_segments, project_of};
 
@@ -36,11 +37,9 @@ pub struct Located {
     pub t: f32,
 }
 
-// The tangents that a lane's record may give at its two ends.
-#[repr(C)]
+// The tangents that a lane's record gives at its two ends.
 #[derive(Clone, Copy)]
 pub struct Ends {
-    pub given: bool,
     pub start: Vector,
     pub end: Vector,
 }
@@ -52,6 +51,14 @@ pub struct Nearer {
     pub best: Projection,
 }
 
+// A lane's points, of which there are at least two, and the arc length at each.
+#[derive(Clone, Copy)]
+pub struct Polyline<'a> {
+    pub points: &'a [f32],
+    pub cumulative: &'a [f32],
+    pub ghost line: { Line points.now cumulative.now },
+}
+
 const UP: Vector = Vector {
     x: 0.0,
     y: 0.0,
@@ -59,6 +66,7 @@ const UP: Vector = Vector {
 };
 
 // Point i.
+#[tactic(auto, unfolding(crate::specs::Polyline::point_at))]
 pub fn vertex(points: &[f32], i: usize) -> Point
     requires { 3 * i + 2 < length points.now }
     ensures { result ≡ point_at points.now i }
@@ -72,6 +80,7 @@ pub fn vertex(points: &[f32], i: usize) -> Point
 }
 
 // The tangent at point i.
+#[tactic(auto, unfolding(crate::specs::Polyline::vector_at))]
 pub fn tangent(tangents: &[f32], i: usize) -> Vector
     requires { 3 * i + 2 < length tangents.now }
     ensures { result ≡ vector_at tangents.now i }
@@ -97,14 +106,11 @@ pub fn write_cumulative(points: &[f32], cumulative: &mut [f32])
     requires { (0 < length cumulative.old) × (3 * length cumulative.old ≤ length points.now) }
     ensures { cumulative.new ≡ cumulative_of points.now (length cumulative.old) }
 {
-    let n = cumulative.len();
     let mut acc = 0.0;
-    let mut i = 0;
     cumulative[0] = acc;
-    while i + 1 < n {
-        acc = acc + segment_length(points, i);
-        i += 1;
-        cumulative[i] = acc;
+    for i in 0..cumulative.len() - 1 {
+        acc += segment_length(points, i);
+        cumulative[i + 1] = acc;
     }
 }
 
@@ -123,7 +129,7 @@ fn horizontal(v: Vector) -> Vector
 fn direction(p: Point, q: Point) -> Vector
     ensures { result ≡ direction_of p q }
 {
-    horizontal(q.sub(p)).normalize_or_zero()
+    horizontal(q - p).normalize_or_zero()
 }
 
 // The direction of the segment that starts at point i of n, zero at the last.
@@ -132,27 +138,23 @@ fn outgoing(points: &[f32], n: usize, i: usize) -> Vector
     ensures { result ≡ outgoing_at points.now n i }
 {
     if i + 1 < n {
-        return direction(vertex(points, i), vertex(points, i + 1));
+        direction(vertex(points, i), vertex(points, i + 1))
+    } else {
+        Vector::ZERO
     }
-    Vector::ZERO
 }
 
 // A given end tangent at the two ends where it has a direction, and the chord elsewhere.
-fn end_or(chord: Vector, ends: Ends, n: usize, i: usize) -> Vector
+#[tactic(auto, unfolding(crate::specs::Polyline::end_or))]
+fn end_or(chord: Vector, ends: Option<Ends>, n: usize, i: usize) -> Vector
     requires { i < n }
     ensures { result ≡ end_or chord ends n i }
 {
-    let start = ends.start;
-    let end = ends.end;
-    if ends.given {
-        if i == 0 {
-            return horizontal(start).normalize_or(chord);
-        }
-        if i == n - 1 {
-            return horizontal(end).normalize_or(chord);
-        }
+    match ends {
+        Some(given) if i == 0 => horizontal(given.start).normalize_or(chord),
+        Some(given) if i == n - 1 => horizontal(given.end).normalize_or(chord),
+        _ => chord,
     }
-    chord
 }
 
 // Writes v as entry i of a list of vectors.
@@ -167,18 +169,16 @@ fn write_vector(to: &mut [f32], i: usize, v: Vector)
 }
 
 // Writes the tangent at each of n points.
-pub fn write_tangents(points: &[f32], n: usize, ends: Ends, tangents: &mut [f32])
+pub fn write_tangents(points: &[f32], n: usize, ends: Option<Ends>, tangents: &mut [f32])
     requires { (3 * n ≤ length points.now) × (length tangents.old ≡ 3 * n) }
     ensures { tangents.new ≡ tangents_of points.now n ends }
 {
     let mut incoming = Vector::ZERO;
-    let mut i = 0;
-    while i < n {
+    for i in 0..n {
         let out = outgoing(points, n, i);
-        let chord = incoming.add(out).normalize_or_zero();
+        let chord = (incoming + out).normalize_or_zero();
         write_vector(tangents, i, end_or(chord, ends, n, i));
         incoming = out;
-        i += 1;
     }
 }
 
@@ -190,53 +190,31 @@ pub fn length(cumulative: &[f32]) -> f32
     cumulative[cumulative.len() - 1]
 }
 
-// The segment that holds s: the last vertex at or before it, never the last point. A binary search for Rust's `partition_point`.
+// The segment that holds s: the last vertex at or before it, never the last point.
 fn segment(cumulative: &[f32], s: f32) -> usize
     requires { (2 ≤ length cumulative.now) × Rising cumulative.now }
     ensures { result ≡ segment_of cumulative.now s }
 {
-    let n = partition_point(cumulative, s);
-    let last = cumulative.len() - 2;
-    if n == 0 {
-        return 0;
-    }
-    if n - 1 < last {
-        return n - 1;
-    }
-    last
-}
-
-// How many entries at the front are at most s.
-fn partition_point(xs: &[f32], s: f32) -> usize
-    requires { Rising xs.now }
-    ensures { result ≡ leading (at_most s) xs.now }
-{
-    let mut from = 0;
-    let mut to = xs.len();
-    while from < to {
-        let mid = from + (to - from) / 2;
-        if xs[mid] <= s {
-            from = mid + 1;
-        } else {
-            to = mid;
-        }
-    }
-    from
+    let n = cumulative.partition_point(|c| *c <= s);
+    n.saturating_sub(1).min(cumulative.len() - 2)
 }
 
 // The fraction of segment i at s; 0 on a segment of at most 1e-6.
+#[tactic(auto, unfolding(crate::specs::Locate::local_t))]
 fn local_t(cumulative: &[f32], i: usize, s: f32) -> f32
     requires { i + 1 < length cumulative.now }
     ensures { result ≡ local_t cumulative.now i s }
 {
     let seg_len = cumulative[i + 1] - cumulative[i];
     if seg_len > 1e-6 {
-        return (s - cumulative[i]) / seg_len;
+        (s - cumulative[i]) / seg_len
+    } else {
+        0.0
     }
-    0.0
 }
 
 // The segment that holds s, and the fraction of it, with s clamped to the polyline.
+#[tactic(auto, using(crate::specs::LocateLaws::segment_inside), unfolding(crate::specs::Locate::locate_of))]
 pub fn locate(cumulative: &[f32], s: f32) -> Located
     requires { (2 ≤ length cumulative.now) × Rising cumulative.now }
     ensures { result ≡ locate_of cumulative.now s }
@@ -269,27 +247,8 @@ fn heading_on(tangents: &[f32], at: Located) -> Vector
         .normalize_or_zero()
 }
 
-// The place at arc length s.
-pub fn point_at(points: &[f32], cumulative: &[f32], s: f32) -> Point
-    requires { Line points.now cumulative.now × Rising cumulative.now }
-    ensures { result ≡ point_along points.now cumulative.now s }
-{
-    place_on(points, locate(cumulative, s))
-}
-
-// The place and the horizontal heading at arc length s.
-pub fn pose_at(points: &[f32], cumulative: &[f32], tangents: &[f32], s: f32) -> Pose
-    requires { Line points.now cumulative.now × (length tangents.now ≡ length points.now) × Rising cumulative.now }
-    ensures { result ≡ pose_along points.now cumulative.now tangents.now s }
-{
-    let at = locate(cumulative, s);
-    Pose {
-        position: place_on(points, at),
-        heading: heading_on(tangents, at),
-    }
-}
-
 // The unit normal to the left of a heading.
+#[tactic(auto, unfolding(crate::specs::Project::left_normal))]
 pub fn left_normal(heading: Vector) -> Vector
     ensures { result ≡ left_normal heading }
 {
@@ -297,17 +256,20 @@ pub fn left_normal(heading: Vector) -> Vector
 }
 
 // The fraction of the segment from a along ab that is nearest to p.
+#[tactic(auto, unfolding(crate::specs::Project::fraction_along))]
 fn fraction(a: Point, ab: Vector, p: Point) -> f32
     ensures { result ≡ fraction_along a ab p }
 {
     let len2 = ab.length_squared();
     if len2 > 1e-9 {
-        return float::clamp(p.sub(a).dot(ab) / len2, 0.0, 1.0);
+        float::clamp((p - a).dot(ab) / len2, 0.0, 1.0)
+    } else {
+        0.0
     }
-    0.0
 }
 
 // The projection of p that lies at `closest`, at the fraction t of a segment along ab that begins at the arc length `start`.
+#[tactic(auto, unfolding(crate::specs::Project::hit_along))]
 fn hit(start: f32, ab: Vector, t: f32, closest: Point, p: Point) -> Projection
     ensures { result ≡ hit_along start ab t closest p }
 {
@@ -315,31 +277,101 @@ fn hit(start: f32, ab: Vector, t: f32, closest: Point, p: Point) -> Projection
     Projection {
         s: start + ab.length() * t,
         point: closest,
-        offset: horizontal(p.sub(closest)).dot(left_normal(heading)),
+        offset: horizontal(p - closest).dot(left_normal(heading)),
     }
 }
 
-// Segment i in place of the best so far, where it is nearer.
-fn nearer_at(points: &[f32], cumulative: &[f32], p: Point, i: usize, best: Nearer) -> Nearer
-    requires { Line points.now cumulative.now × (i + 1 < length cumulative.now) }
-    ensures { result ≡ nearer_at points.now cumulative.now p i best }
-{
-    let start = cumulative[i];
-    let a = vertex(points, i);
-    let ab = vertex(points, i + 1).sub(a);
-    let t = fraction(a, ab, p);
-    let closest = a.add(ab.mul(t));
-    let dist = p.sub(closest).length_squared();
-    if dist < best.dist {
-        return Nearer {
-            dist,
-            best: hit(start, ab, t, closest, p),
+impl Polyline<'_> {
+    // The place at arc length s.
+    #[tactic(auto, using(crate::specs::LocateLaws::located_inside), unfolding(crate::specs::Locate::point_along))]
+    pub fn point_at(self, s: f32) -> Point
+        requires { Rising self.cumulative.now }
+        ensures { result ≡ point_along self.entry.points.now self.entry.cumulative.now s }
+    {
+        place_on(self.points, locate(self.cumulative, s))
+    }
+
+    // The place and the horizontal heading at arc length s.
+    #[tactic(auto, using(crate::specs::LocateLaws::located_inside), unfolding(crate::specs::Locate::pose_along))]
+    pub fn pose_at(self, tangents: &[f32], s: f32) -> Pose
+        requires { (length tangents.now ≡ length self.points.now) × Rising self.cumulative.now }
+        ensures { result ≡ pose_along self.entry.points.now self.entry.cumulative.now tangents.now s }
+    {
+        let at = locate(self.cumulative, s);
+        Pose {
+            position: place_on(self.points, at),
+            heading: heading_on(tangents, at),
+        }
+    }
+
+    // Segment i in place of the best so far, where it is nearer.
+    #[tactic(auto, unfolding(crate::specs::Project::nearer_at))]
+    fn nearer_at(self, p: Point, i: usize, best: Nearer) -> Nearer
+        requires { i + 1 < length self.cumulative.now }
+        ensures { result ≡ nearer_at self.entry.points.now self.entry.cumulative.now p i best }
+    {
+        let start = self.cumulative[i];
+        let a = vertex(self.points, i);
+        let ab = vertex(self.points, i + 1) - a;
+        let t = fraction(a, ab, p);
+        let closest = a + ab * t;
+        let dist = (p - closest).length_squared();
+        if dist < best.dist {
+            Nearer {
+                dist,
+                best: hit(start, ab, t, closest, p),
+            }
+        } else {
+            best
+        }
+    }
+
+    // The nearest place to p on the segments `first` to `end - 1`. Of places as near the first wins.
+    pub fn project_segments(self, p: Point, first: usize, end: usize) -> Projection
+        requires { (first < length self.cumulative.now) × (end < length self.cumulative.now) }
+        ensures { result ≡ project_segments self.entry.points.now self.entry.cumulative.now p first end }
+    {
+        let mut best = Nearer {
+            dist: 1.0 / 0.0,
+            best: Projection {
+                s: self.cumulative[first],
+                point: vertex(self.points, first),
+                offset: 0.0,
+            },
         };
+        for i in first..end {
+            best = self.nearer_at(p, i, best);
+        }
+        best.best
     }
-    best
+
+    // The nearest place to p on the whole polyline.
+    pub fn project(self, p: Point) -> Projection
+        ensures { result ≡ project_of self.entry.points.now self.entry.cumulative.now p }
+    {
+        self.project_segments(p, 0, self.cumulative.len() - 1)
+    }
 }
 
-// The nearest place to p on the segments `first` to `end - 1`. Of places as near the first wins.
+// The methods of `Polyline` for a caller that holds the two lists apart.
+
+// The place at arc length s.
+pub fn point_at(points: &[f32], cumulative: &[f32], s: f32) -> Point
+    requires { Line points.now cumulative.now × Rising cumulative.now }
+    ensures { result ≡ point_along points.now cumulative.now s }
+{
+    Polyline { points, cumulative }.point_at(s)
+}
+
+// The place and the horizontal heading at arc length s.
+pub fn pose_at(points: &[f32], cumulative: &[f32], tangents: &[f32], s: f32) -> Pose
+    requires { Line points.now cumulative.now × (length tangents.now ≡ length points.now) × Rising cumulative.now }
+    ensures { result ≡ pose_along points.now cumulative.now tangents.now s }
+{
+    Polyline { points, cumulative }.pose_at(tangents, s)
+}
+
+// The nearest place to p on the segments `first` to `end - 1`.
 pub fn project_segments(
     points: &[f32],
     cumulative: &[f32],
@@ -350,20 +382,7 @@ pub fn project_segments(
     requires { Line points.now cumulative.now × (first < length cumulative.now) × (end < length cumulative.now) }
     ensures { result ≡ project_segments points.now cumulative.now p first end }
 {
-    let mut best = Nearer {
-        dist: 1.0 / 0.0,
-        best: Projection {
-            s: cumulative[first],
-            point: vertex(points, first),
-            offset: 0.0,
-        },
-    };
-    let mut i = first;
-    while i < end {
-        best = nearer_at(points, cumulative, p, i, best);
-        i += 1;
-    }
-    best.best
+    Polyline { points, cumulative }.project_segments(p, first, end)
 }
 
 // The nearest place to p on the whole polyline.
@@ -371,5 +390,5 @@ pub fn project(points: &[f32], cumulative: &[f32], p: Point) -> Projection
     requires { Line points.now cumulative.now }
     ensures { result ≡ project_of points.now cumulative.now p }
 {
-    project_segments(points, cumulative, p, 0, cumulative.len() - 1)
+    Polyline { points, cumulative }.project(p)
 }
