@@ -2,6 +2,10 @@
 use Rattle.std.specs.Prelude.{◌≡◌, refl, Bool, true, false, cond, T, length, get_or, Float}
 use Rattle.std.proofs.Common.{sym, ap, subst, suc-le-suc, arith}
 use Rattle.std.proofs.lemmas.List.{get_or_default}
+use Rattle.std.proofs.lemmas.List.Sorted.{IsPartitionPoint-from_clause}
+use Rattle.std.specs.Borrow.{Bor}
+use Rattle.std.specs.Fn.{Called, ComputesKey}
+use denote.Param.Members.{Mut}
 use Rattle.std.specs.List.Sorted.{IsPartitionPoint, IsPartitionedBy}
 use mathlib.Core.List.{List, [], ◌∷◌}
 use Prim.Native.Nat.{ℕ, zero, suc, ◌≤◌, ◌<◌, zero-le}
@@ -91,3 +95,12 @@ rising_partitioned passes falling xs rises i j d before inside passed =
     by : (b : Bool) → passes (get_or xs i nan) ≡ b → b ≡ true
     by true e = refl
     by false e = absurd (omega (arith, on, leading_stops passes xs i (omega arith) e))
+
+-- the answer of std's `partition_point` on a rising list, from its clause, where each call of the closure tests the entry
+pub point_is : {F : Type 0} {g : Mut F (Bor Float × Unit {0}) Bool} {f : F} (passes : Float → Bool) (xs : List Float) (n : ℕ)
+    → Falling passes → Rising xs → n ≤ length xs
+    → ((q : Float → Bool) → ComputesKey g q f → IsPartitionedBy q xs → IsPartitionPoint (λ y. q y ≡ true) (λ y. q y ≡ false) xs n)
+    → ((a : Bor Float × Unit {0}) (r : Bool) (f' : F) → Called g f a r f' → (r ≡ passes a.0.now) × (f' ≡ f)) → n ≡ leading passes xs
+point_is {g = g} {f = f} passes xs n falling rises bound clause calls =
+    leading_is passes xs n bound
+    (IsPartitionPoint-from_clause passes xs n clause (rising_partitioned passes falling xs rises) calls)
