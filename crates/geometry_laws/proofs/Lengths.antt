@@ -26,7 +26,6 @@ use Rattle.float_laws.specs.Nearest.{Units}
 use Rattle.float_laws.specs.Root.{Closest}
 use Rattle.float_laws.proofs.Root.{root_within_half, root_closest}
 use Rattle.coords.specs.declared.Point.{Point}
-use Rattle.coords.specs.declared.Vector.{Vector}
 use Rattle.coords.specs.Coords.{sub_of, length_squared, length_of}
 use Rattle.geometry_laws.specs.Range.{InRange, PointIn, Sized}
 
