@@ -1,6 +1,6 @@
 -- road.rs, `along` and `station_at`, and `centerline_s` of network.rs: from a road station to metres along a lane, and back.
 -- `ps` are the lane's points, `sts` the f64 stations of its section, one for each of the n points. Definitions only.
-use Rattle.std.specs.Prelude.{Bool, cond, not, ◌&&◌, List, ◌≡◌, ℕ, ◌+◌, ◌-◌, min, length, get_or, drop, Float}
+use Rattle.std.specs.Prelude.{Bool, cond, not, ◌&&◌, Option, None, Some, List, ◌≡◌, ℕ, ◌+◌, ◌-◌, min, length, get_or, drop, Float}
 use Rattle.std.specs.Float.{nan, binary32, binary64}
 use Rattle.std.specs.Float.Ieee.{add, sub, mul, div, lt, le, of_bits}
 use Rattle.float.specs.Choose.{clamp_of}
@@ -9,8 +9,6 @@ use Rattle.coords.specs.Coords.{zero⁺, one⁺}
 use Rattle.geometry.specs.Polyline.{Line, segment_length, arc_at, cumulative_of}
 use Rattle.geometry.specs.Partition.{Rising, leading}
 use Rattle.geometry.specs.Locate.{segment_of}
-use Rattle.road.specs.declared.OnLane.{OnLane}
-use Rattle.road.specs.declared.OnLane.TheVariants.{At, Off}
 
 -- a lane's points with their arc lengths, and a station for each
 pub record Stationed (ps cs sts : List Float) : Type 0 where
@@ -66,5 +64,5 @@ station_of ps sts arc =
     station_on sts i (part_of (segment_length ps i) (arc_at ps i) arc)
 
 -- ---- `centerline_s`: both ends of the section count as within it
-unfoldable pub centerline_of : Float → Float → List Float → List Float → Float → OnLane
-centerline_of start end ps sts s = cond (le start s && le s end) (At (along_of ps sts s)) Off
+unfoldable pub centerline_of : Float → Float → List Float → List Float → Float → Option Float
+centerline_of start end ps sts s = cond (le start s && le s end) (Some (along_of ps sts s)) None

@@ -1,5 +1,5 @@
 -- The steps of `along` and `station_at` give what their definitions say.
-use Rattle.std.specs.Prelude.{◌≡◌, refl, Bool, true, false, not, ℕ, ◌+◌, ◌-◌, ◌<◌, T, length, get_or, take, drop, Float}
+use Rattle.std.specs.Prelude.{◌≡◌, refl, Bool, true, false, not, None, Some, ℕ, ◌+◌, ◌-◌, ◌<◌, T, length, get_or, take, drop, Float}
 use Rattle.std.proofs.Math.Path.{sym, ap, ap₂}
 use Rattle.std.proofs.Common.{◌∙◌, subst, arith, length-drop, take_all}
 use Rattle.std.proofs.Math.Bool.{cond}
@@ -16,7 +16,6 @@ use Rattle.geometry.specs.Partition.{leading, Rising, Falling, rising_rest, is_t
 use Rattle.geometry.specs.Locate.{segment_of}
 use Rattle.geometry.specs.LocateLaws.{segment_inside}
 use Rattle.geometry.specs.Order.{le_trans}
-use Rattle.road.specs.declared.OnLane.TheVariants.{At, Off}
 use Rattle.road.specs.Along.{Stationed, fraction_at, along_of, short_of, reached_by, part_of, station_on, station_of, centerline_of}
 
 -- ---- the search of `station_at` looks at the ends of the segments: the arc lengths from the second on
@@ -82,14 +81,14 @@ module _ (ps cs sts : List Float) (lane : Stationed ps cs sts) where
 
 -- what the tests of `centerline_s` decide
 module _ (start end : Float) (ps sts : List Float) (s : Float) where
-  pub on_section : le start s ≡ true → le s end ≡ true → At (along_of ps sts s) ≡ centerline_of start end ps sts s
+  pub on_section : le start s ≡ true → le s end ≡ true → Some (along_of ps sts s) ≡ centerline_of start end ps sts s
   unfolding centerline_of
   on_section h k = rw (h, k)
 
-  pub past_section : le start s ≡ true → le s end ≡ false → Off ≡ centerline_of start end ps sts s
+  pub past_section : le start s ≡ true → le s end ≡ false → None ≡ centerline_of start end ps sts s
   unfolding centerline_of
   past_section h k = rw (h, k)
 
-  pub before_section : le start s ≡ false → Off ≡ centerline_of start end ps sts s
+  pub before_section : le start s ≡ false → None ≡ centerline_of start end ps sts s
   unfolding centerline_of
   before_section h = rw h

@@ -1,5 +1,5 @@
 -- Worked cases: what the definitions answer for small lanes, by computation.
-use Rattle.std.specs.Prelude.{◌≡◌, refl, List, [], ◌∷◌, ℕ, Float}
+use Rattle.std.specs.Prelude.{◌≡◌, refl, None, Some, List, [], ◌∷◌, ℕ, Float}
 use Rattle.std.specs.Float.{nan, binary32, binary64}
 use Rattle.std.specs.Float.Ieee.{add, sub, mul, div, lt, le, of_bits}
 use Rattle.float.specs.Narrow.{narrow_of}
@@ -8,7 +8,6 @@ use Rattle.coords.specs.Coords.{length_of}
 use Rattle.geometry.specs.Polyline.{point_at, arc_at, cumulative_of}
 use Rattle.geometry.specs.Partition.{leading}
 use Rattle.geometry.specs.Locate.{segment_of}
-use Rattle.road.specs.declared.OnLane.TheVariants.{At, Off}
 use Rattle.road.specs.Along.{fraction_at, along_of, reached_by, part_of, station_on, station_of, centerline_of}
 
 abbrev f : ℕ → Float
@@ -63,18 +62,18 @@ unfolding station_of reached_by leading part_of station_on cumulative_of arc_at 
 still = refl
 
 -- a section from 2 to 16: its ends are within it, 1 and NaN are not
-on_start : centerline_of (d 0x4000000000000000) (d 0x4030000000000000) line sts (d 0x4000000000000000) ≡ At (f 0x40800000)
+on_start : centerline_of (d 0x4000000000000000) (d 0x4030000000000000) line sts (d 0x4000000000000000) ≡ Some (f 0x40800000)
 unfolding centerline_of along_of segment_of leading fraction_at arc_at point_at length_of sqrt_of narrow_of add sub mul div lt le of_bits
 on_start = refl
 
-on_end : centerline_of (d 0x4000000000000000) (d 0x4030000000000000) line sts (d 0x4030000000000000) ≡ At (f 0x41800000)
+on_end : centerline_of (d 0x4000000000000000) (d 0x4030000000000000) line sts (d 0x4030000000000000) ≡ Some (f 0x41800000)
 unfolding centerline_of along_of segment_of leading fraction_at arc_at point_at length_of sqrt_of narrow_of add sub mul div lt le of_bits
 on_end = refl
 
-off_start : centerline_of (d 0x4000000000000000) (d 0x4030000000000000) line sts (d 0x3ff0000000000000) ≡ Off
+off_start : centerline_of (d 0x4000000000000000) (d 0x4030000000000000) line sts (d 0x3ff0000000000000) ≡ None
 unfolding centerline_of along_of segment_of leading fraction_at arc_at point_at length_of sqrt_of narrow_of add sub mul div lt le of_bits
 off_start = refl
 
-off_nan : centerline_of (d 0x4000000000000000) (d 0x4030000000000000) line sts nan ≡ Off
+off_nan : centerline_of (d 0x4000000000000000) (d 0x4030000000000000) line sts nan ≡ None
 unfolding centerline_of along_of segment_of leading fraction_at arc_at point_at length_of sqrt_of narrow_of add sub mul div lt le of_bits
 off_nan = refl

@@ -3,53 +3,33 @@
 // `specs/` says what each function answers.
 #![tactic(auto)]
 
-ghost use Rattle.std.specs.Prelude.{◌≡◌, ◌+◌, ◌*◌, ◌<◌, length};
-ghost use Rattle.geometry.specs.Partition.{leading, at_most, Rising};
+ghost use Rattle.std.specs.Prelude.{◌≡◌, ◌+◌, ◌<◌, length};
+ghost use Rattle.geometry.specs.Partition.{Rising};
 ghost use Rattle.geometry.specs.Locate.{segment_of};
-ghost use Rattle.road.specs.Along.{Stationed, fraction_at, along_of, short_of, reached_by, part_of, station_on, station_of, centerline_of};
+ghost use Rattle.road.specs.Along.{Stationed, fraction_at, along_of, reached_by, part_of, station_on, station_of, centerline_of};
 
-// How far along the centerline a station is, or that it is off the section.
+// A lane's points, and the arc length and the station of each.
+// The first two are no `Polyline` here: the borrow checker takes lists of different lifetimes in a struct, and not in a struct in it.
 #[derive(Clone, Copy)]
-pub enum OnLane {
-    At(f32),
-    Off,
-}
-
-// How many stations at the front are at most s.
-fn partition_point(xs: &[f64], s: f64) -> usize
-    requires { Rising xs.now }
-    ensures { result ≡ leading (at_most s) xs.now }
-{
-    let mut from = 0;
-    let mut to = xs.len();
-    while from < to {
-        let mid = from + (to - from) / 2;
-        if xs[mid] <= s {
-            from = mid + 1;
-        } else {
-            to = mid;
-        }
-    }
-    from
+pub struct StationedLane<'a> {
+    pub points: &'a [f32],
+    pub cumulative: &'a [f32],
+    pub stations: &'a [f64],
+    pub ghost stationed: { Stationed points.now cumulative.now stations.now },
 }
 
 // The last station at or before s, never the last of all.
+// One function for this and `geometry`'s `segment` would take the comparison as a closure, and its clauses are longer than the two.
 fn station_before(stations: &[f64], s: f64) -> usize
     requires { (1 < length stations.now) × Rising stations.now }
     ensures { result ≡ segment_of stations.now s }
 {
-    let n = partition_point(stations, s);
-    let last = stations.len() - 2;
-    if n == 0 {
-        return 0;
-    }
-    if n - 1 < last {
-        return n - 1;
-    }
-    last
+    let n = stations.partition_point(|x| *x <= s);
+    n.saturating_sub(1).min(stations.len() - 2)
 }
 
 // The fraction of the way from station i to the next at which s lies.
+#[tactic(auto, unfolding(crate::specs::Along::fraction_at))]
 fn fraction(stations: &[f64], i: usize, s: f64) -> f64
     requires { i + 1 < length stations.now }
     ensures { result ≡ fraction_at stations.now i s }
@@ -58,58 +38,29 @@ fn fraction(stations: &[f64], i: usize, s: f64) -> f64
     float::clamp((s - from) / (stations[i + 1] - from), 0.0, 1.0)
 }
 
-// How far along a lane the road station s is, in metres from its first point.
-pub fn along(points: &[f32], cumulative: &[f32], stations: &[f64], s: f64) -> f32
-    requires { Stationed points.now cumulative.now stations.now }
-    ensures { result ≡ along_of points.now stations.now s }
-{
-    let i = station_before(stations, s);
-    let part = float::nearest_f64_to_f32(fraction(stations, i, s));
-    cumulative[i] + geometry::segment_length(points, i) * part
-}
-
-// How many arc lengths at the front are short of `arc`.
-fn short_of(ends: &[f32], arc: f32) -> usize
-    requires { Rising ends.now }
-    ensures { result ≡ leading (short_of arc) ends.now }
-{
-    let mut from = 0;
-    let mut to = ends.len();
-    while from < to {
-        let mid = from + (to - from) / 2;
-        if ends[mid] >= arc {
-            to = mid;
-        } else {
-            from = mid + 1;
-        }
-    }
-    from
-}
-
 // The first segment that ends at or past `arc`, and the last where none does.
 fn reached(cumulative: &[f32], arc: f32) -> usize
     requires { (1 < length cumulative.now) × Rising cumulative.now }
     ensures { result ≡ reached_by cumulative.now arc }
 {
-    let n = short_of(&cumulative[1..], arc);
-    let last = cumulative.len() - 2;
-    if n < last {
-        return n;
-    }
-    last
+    let n = cumulative[1..].partition_point(|end| !(*end >= arc));
+    n.min(cumulative.len() - 2)
 }
 
 // The fraction of a segment of length `step`, begun at `before`, at which `arc` lies.
+#[tactic(auto, unfolding(crate::specs::Along::part_of))]
 fn part(step: f32, before: f32, arc: f32) -> f32
     ensures { result ≡ part_of step before arc }
 {
     if step > 0.0 {
-        return float::clamp((arc - before) / step, 0.0, 1.0);
+        float::clamp((arc - before) / step, 0.0, 1.0)
+    } else {
+        0.0
     }
-    0.0
 }
 
 // The station at the fraction f of the way from station i to the next.
+#[tactic(auto, unfolding(crate::specs::Along::station_on))]
 fn station_on(stations: &[f64], i: usize, f: f32) -> f64
     requires { i + 1 < length stations.now }
     ensures { result ≡ station_on stations.now i f }
@@ -118,35 +69,64 @@ fn station_on(stations: &[f64], i: usize, f: f32) -> f64
     from + (stations[i + 1] - from) * float::f32_to_f64(f)
 }
 
-// The road station `arc` metres along a lane from its first point, the inverse of `along`.
+impl StationedLane<'_> {
+    // How far along the lane the road station s is, in metres from its first point.
+    #[tactic(auto, using(crate::specs::AlongLaws::station_inside))]
+    pub fn along(self, s: f64) -> f32
+        ensures { result ≡ along_of self.entry.points.now self.entry.stations.now s }
+    {
+        let i = station_before(self.stations, s);
+        let part = float::nearest_f64_to_f32(fraction(self.stations, i, s));
+        self.cumulative[i] + geometry::segment_length(self.points, i) * part
+    }
+
+    // The road station `arc` metres along the lane from its first point, the inverse of `along`.
+    #[tactic(auto, using(crate::specs::AlongLaws::reached_inside))]
+    pub fn station_at(self, arc: f32) -> f64
+        ensures { result ≡ station_of self.entry.points.now self.entry.stations.now arc }
+    {
+        let i = reached(self.cumulative, arc);
+        let len = geometry::segment_length(self.points, i);
+        station_on(self.stations, i, part(len, self.cumulative[i], arc))
+    }
+
+    // How far along the centerline the station s is, where it lies from `start` to `end` of the lane's section.
+    #[tactic(auto, unfolding(crate::specs::Along::centerline_of))]
+    pub fn centerline_s(self, start: f64, end: f64, s: f64) -> Option<f32>
+        ensures { result ≡ centerline_of start end self.entry.points.now self.entry.stations.now s }
+    {
+        if start <= s && s <= end {
+            Some(self.along(s))
+        } else {
+            None
+        }
+    }
+}
+
+// The methods of `StationedLane` for a caller that holds the three lists apart.
+
+// How far along a lane the road station s is.
+pub fn along(points: &[f32], cumulative: &[f32], stations: &[f64], s: f64) -> f32
+    requires { Stationed points.now cumulative.now stations.now }
+    ensures { result ≡ along_of points.now stations.now s }
+{
+    let lane = StationedLane {
+        points,
+        cumulative,
+        stations,
+    };
+    lane.along(s)
+}
+
+// The road station `arc` metres along a lane.
 pub fn station_at(points: &[f32], cumulative: &[f32], stations: &[f64], arc: f32) -> f64
     requires { Stationed points.now cumulative.now stations.now }
     ensures { result ≡ station_of points.now stations.now arc }
 {
-    let i = reached(cumulative, arc);
-    station_on(
+    let lane = StationedLane {
+        points,
+        cumulative,
         stations,
-        i,
-        part(geometry::segment_length(points, i), cumulative[i], arc),
-    )
-}
-
-// How far along the centerline the station s is, where it lies from `start` to `end` of the lane's section.
-pub fn centerline_s(
-    start: f64,
-    end: f64,
-    points: &[f32],
-    cumulative: &[f32],
-    stations: &[f64],
-    s: f64,
-) -> OnLane
-    requires { Stationed points.now cumulative.now stations.now }
-    ensures { result ≡ centerline_of start end points.now stations.now s }
-{
-    if start <= s {
-        if s <= end {
-            return OnLane::At(along(points, cumulative, stations, s));
-        }
-    }
-    OnLane::Off
+    };
+    lane.station_at(arc)
 }

@@ -1,17 +1,16 @@
--- `station_before` takes one off the count and stays below the last station.
-use native.Mathlib.Omega.{arith}
-use borrow.Author.Rules.{rules}
+-- `station_before` takes one off the count of the stations at or before s, and stays below the last.
+use Rattle.std.proofs.Common.{rules, arith}
+use Rattle.geometry.specs.Partition.{at_most, at_most_falling, point_is}
 use Rattle.geometry.specs.Locate.{segment_of}
 use Rattle.road.proofs.station_before.Goals as goal
 
-pub returns-then-n-eq0 : goal.returns-then-n-eq0
-unfolding segment_of
-returns-then-n-eq0 c = omega (arith, c.partition_point-n.ensures)
-
-pub returns-then-n-last : goal.returns-then-n-last
-unfolding segment_of
-returns-then-n-last c = omega (arith, c.partition_point-n.ensures)
-
 pub returns : goal.returns
 unfolding segment_of
-returns c = omega (arith, c.partition_point-n.ensures)
+returns c =
+    let s = c.args.s in
+    let n = c.partition_point-n.ensures in
+    omega (
+      arith,
+      point_is (at_most s) c.args.stations.now c.partition_point-n.result (at_most_falling s) c.requires.1 n.bound n.partitioned
+          (λ a r f' k. search rules),
+    )
