@@ -1,2 +1,2 @@
--- What C takes in place of an enum.
-pub mod Centerline
+-- What C takes and gives in place of an Option.
+pub mod ForC

@@ -7,13 +7,22 @@ ghost use Rattle.geometry.specs.Partition.{Rising};
 ghost use Rattle.geometry.specs.Locate.{locate_of, point_along, pose_along};
 ghost use Rattle.geometry.specs.Project.{project_segments, project_of};
 ghost use Rattle.road.specs.Along.{Stationed, along_of, station_of, centerline_of};
-ghost use Rattle.geometry_c.specs.Centerline.{as_centerline};
+ghost use Rattle.geometry_c.specs.ForC.{as_centerline, ends_given};
 
-use coords::Point;
-use geometry::{Ends, Located, Pose, Projection};
-use road::OnLane;
+use coords::{Point, Vector};
+use geometry::{Located, Polyline, Pose, Projection};
+use road::StationedLane;
 
-// `OnLane` for C: whether the station lies on the section, and how far along the centerline it is, 0 where it does not.
+// For C, whether a lane's record gives tangents at its two ends, and the two.
+#[repr(C)]
+#[derive(Clone, Copy)]
+pub struct Ends {
+    pub given: bool,
+    pub start: Vector,
+    pub end: Vector,
+}
+
+// For C, whether the station lies on the section, and how far along the centerline it is, 0 where it does not.
 #[repr(C)]
 #[derive(Clone, Copy)]
 pub struct Centerline {
@@ -37,9 +46,13 @@ pub extern "C" fn kartsodi_write_tangents(
     tangents: &mut [f32],
 )
     requires { (3 * n ≤ length points.now) × (length tangents.old ≡ 3 * n) }
-    ensures { tangents.new ≡ tangents_of points.now n ends }
+    ensures { tangents.new ≡ tangents_of points.now n (ends_given ends) }
 {
-    geometry::write_tangents(points, n, ends, tangents);
+    let given = geometry::Ends {
+        start: ends.start,
+        end: ends.end,
+    };
+    geometry::write_tangents(points, n, ends.given.then_some(given), tangents);
 }
 
 #[unsafe(no_mangle)]
@@ -55,7 +68,7 @@ pub extern "C" fn kartsodi_point_at(points: &[f32], cumulative: &[f32], s: f32) 
     requires { Line points.now cumulative.now × Rising cumulative.now }
     ensures { result ≡ point_along points.now cumulative.now s }
 {
-    geometry::point_at(points, cumulative, s)
+    Polyline { points, cumulative }.point_at(s)
 }
 
 #[unsafe(no_mangle)]
@@ -68,7 +81,7 @@ pub extern "C" fn kartsodi_pose_at(
     requires { Line points.now cumulative.now × (length tangents.now ≡ length points.now) × Rising cumulative.now }
     ensures { result ≡ pose_along points.now cumulative.now tangents.now s }
 {
-    geometry::pose_at(points, cumulative, tangents, s)
+    Polyline { points, cumulative }.pose_at(tangents, s)
 }
 
 #[unsafe(no_mangle)]
@@ -82,7 +95,7 @@ pub extern "C" fn kartsodi_project_segments(
     requires { Line points.now cumulative.now × (first < length cumulative.now) × (end < length cumulative.now) }
     ensures { result ≡ project_segments points.now cumulative.now p first end }
 {
-    geometry::project_segments(points, cumulative, p, first, end)
+    Polyline { points, cumulative }.project_segments(p, first, end)
 }
 
 #[unsafe(no_mangle)]
@@ -90,7 +103,7 @@ pub extern "C" fn kartsodi_project(points: &[f32], cumulative: &[f32], p: Point)
     requires { Line points.now cumulative.now }
     ensures { result ≡ project_of points.now cumulative.now p }
 {
-    geometry::project(points, cumulative, p)
+    Polyline { points, cumulative }.project(p)
 }
 
 #[unsafe(no_mangle)]
@@ -103,7 +116,12 @@ pub extern "C" fn kartsodi_along(
     requires { Stationed points.now cumulative.now stations.now }
     ensures { result ≡ along_of points.now stations.now s }
 {
-    road::along(points, cumulative, stations, s)
+    let lane = StationedLane {
+        points,
+        cumulative,
+        stations,
+    };
+    lane.along(s)
 }
 
 #[unsafe(no_mangle)]
@@ -116,7 +134,12 @@ pub extern "C" fn kartsodi_station_at(
     requires { Stationed points.now cumulative.now stations.now }
     ensures { result ≡ station_of points.now stations.now arc }
 {
-    road::station_at(points, cumulative, stations, arc)
+    let lane = StationedLane {
+        points,
+        cumulative,
+        stations,
+    };
+    lane.station_at(arc)
 }
 
 #[unsafe(no_mangle)]
@@ -131,8 +154,13 @@ pub extern "C" fn kartsodi_centerline_s(
     requires { Stationed points.now cumulative.now stations.now }
     ensures { result ≡ as_centerline (centerline_of start end points.now stations.now s) }
 {
-    match road::centerline_s(start, end, points, cumulative, stations, s) {
-        OnLane::At(along) => Centerline { on: true, s: along },
-        OnLane::Off => Centerline { on: false, s: 0.0 },
+    let lane = StationedLane {
+        points,
+        cumulative,
+        stations,
+    };
+    match lane.centerline_s(start, end, s) {
+        Some(along) => Centerline { on: true, s: along },
+        None => Centerline { on: false, s: 0.0 },
     }
 }
