@@ -48,11 +48,6 @@ pub rising_rest : {x : Float} {xs : List Float} → Rising (x ∷ xs) → Rising
 rising_rest r = record { step = λ i h. r.step (suc i) (omega arith) }
 
 module _ (passes : Float → Bool) where
-  leading_length : (xs : List Float) → leading passes xs ≤ length xs
-  unfolding leading
-  leading_length [] = zero-le
-  leading_length (x ∷ xs) = counted (passes x) (leading passes xs) (length xs) (leading_length xs)
-
   -- an entry that fails is past the leading ones
   leading_stops : (xs : List Float) (k : ℕ) → k < length xs → passes (get_or xs k nan) ≡ false → leading passes xs ≤ k
   unfolding leading

@@ -79,7 +79,7 @@ pub fn vertex(points: &[f32], i: usize) -> Point
     }
 }
 
-// The tangent at point i.
+// The tangent at point i. One function for this and `vertex` would need a conversion of three numbers to each type: no plainer.
 #[tactic(auto, unfolding(crate::specs::Polyline::vector_at))]
 pub fn tangent(tangents: &[f32], i: usize) -> Vector
     requires { 3 * i + 2 < length tangents.now }

@@ -19,7 +19,8 @@ loop-i-preserved c =
     let sum = ap₂ (add binary32) l.invariant.sum c.segment_length-acc.ensures ∙ arc_next ps l.i in
     record {
       sum = sum;
-      written = cumulative_next ps (set c.args.cumulative.now 0 zero⁺) l.cumulative (l.i + 1) _ (simp length-set (omega (arith, length-set {A = Float}))) l.invariant.written sum;
+      written = cumulative_next ps (set c.args.cumulative.now 0 zero⁺) l.cumulative (l.i + 1) _
+          (simp length-set (omega (arith, length-set {A = Float}))) l.invariant.written sum;
     }
 
 pub returns : goal.returns
