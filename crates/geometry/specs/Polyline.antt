@@ -1,6 +1,7 @@
 -- geometry.rs, `Polyline::build`: a lane's polyline over the flat list of its points, as its record in the plan file has them
 -- (x y z of each): the arc length at each point and the tangents. Definitions only.
-use Rattle.std.specs.Prelude.{◌≡◌, cond, Option, None, Some, List, [], ◌∷◌, ◌++◌, ℕ, zero, suc, ◌+◌, ◌-◌, ◌*◌, ◌≤◌, ltb, eqb, length, get_or, set, Float}
+use Rattle.std.specs.Prelude.{◌≡◌, cond, Option, None, Some, List, [], ◌∷◌, ◌++◌, length, get_or, set, Float}
+use Rattle.std.specs.Prelude.{ℕ, zero, suc, ◌+◌, ◌-◌, ◌*◌, ◌≤◌, ltb, eqb}
 use Rattle.std.specs.Float.{nan, binary32}
 use Rattle.std.specs.Float.Ieee.{add}
 use Rattle.coords.specs.declared.Point.{Point}

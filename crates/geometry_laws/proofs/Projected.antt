@@ -26,7 +26,8 @@ use Rattle.geometry.specs.declared.Nearer.{Nearer}
 use Rattle.geometry.specs.declared.Projection.{Projection}
 use Rattle.geometry.specs.Polyline.{point_at, arc_at, cumulative_of}
 use Rattle.geometry.specs.PolylineLaws.{cumulative_at}
-use Rattle.geometry.specs.Project.{nano, fraction_along, fraction_of, place_at, closest_of, hit_along, hit_at, nearer_at, project_to, project_segments}
+use Rattle.geometry.specs.Project.{nano, fraction_along, fraction_of, place_at, closest_of, hit_along, hit_at}
+use Rattle.geometry.specs.Project.{nearer_at, project_to, project_segments}
 use Rattle.geometry_laws.specs.Range.{InRange, PointIn, Coordinates, Sized, PointSized, FromZero, Landed}
 use Rattle.geometry_laws.proofs.Lengths.{in_range_ok, in_range_size, difference, distance}
 use Rattle.geometry_laws.proofs.Cumulative.{zero_is, point_in_range, arc_long}

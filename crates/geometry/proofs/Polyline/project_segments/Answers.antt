@@ -19,7 +19,8 @@ loop-i-preserved c =
     let l = c.loop-i in
     record {
       so_far = omega arith;
-      nearest = project_next a.self.points.now a.self.cumulative.now a.p a.first l.i l.best _ (omega arith) l.invariant.nearest c.nearer_at-best.ensures;
+      nearest = project_next a.self.points.now a.self.cumulative.now a.p a.first l.i l.best _ (omega arith) l.invariant.nearest
+          c.nearer_at-best.ensures;
     }
 
 pub returns : goal.returns
