@@ -1,6 +1,6 @@
 -- The polylines of all lanes in the lent tables: the arc lengths and the tangents of each lane's points, lane after lane.
 -- Definitions only.
-use Rattle.std.specs.Prelude.{◌≡◌, not, List, [], ◌++◌, ℕ, zero, suc, ◌+◌, ◌*◌, ◌≤◌, ◌<◌, eqb, length, get_or, Float}
+use Rattle.std.specs.Prelude.{◌≡◌, cond, Option, None, Some, List, [], ◌++◌, ℕ, zero, suc, ◌+◌, ◌*◌, ◌≤◌, ◌<◌, eqb, length, get_or, Float}
 use Rattle.geometry.specs.declared.Ends.{Ends}
 use Rattle.geometry.specs.Over.{placed}
 use Rattle.geometry.specs.Polyline.{vector_at, cumulative_of, tangents_of}
@@ -10,17 +10,13 @@ use Rattle.rows.specs.Rows.{first_point, part, point_count, points_of}
 abbrev pub with_cumulative : List Float → ℕ → ℕ → List Float → List Float
 with_cumulative points first count old = placed first (cumulative_of (part points (3 * first) (3 * (first + count))) count) old
 
-abbrev pub with_tangents : List Float → ℕ → ℕ → Ends → List Float → List Float
+abbrev pub with_tangents : List Float → ℕ → ℕ → Option Ends → List Float → List Float
 with_tangents points first count ends old = placed (3 * first) (tangents_of (part points (3 * first) (3 * (first + count))) count ends) old
 
--- the tangents at the ends of lane i: row i of `ends`
-unfoldable pub lane_ends : List ℕ → List Float → ℕ → Ends
-lane_ends lanes ends i = record {
-  given = not (eqb (get_or lanes (6 * i + 3) 0) 0);
-  start = vector_at ends (2 * i);
-  end = vector_at ends
-      (2 * i + 1);
-}
+-- the tangents at the ends of lane i, where it gives them: row i of `ends`
+unfoldable pub lane_ends : List ℕ → List Float → ℕ → Option Ends
+lane_ends lanes ends i =
+    cond (eqb (get_or lanes (6 * i + 3) 0) 0) None (Some (record { start = vector_at ends (2 * i); end = vector_at ends (2 * i + 1) }))
 
 -- the arc lengths, and the tangents, of the lanes 0 .. k - 1
 unfoldable pub cumulative_rows : List ℕ → List Float → ℕ → List Float

@@ -1,5 +1,5 @@
 -- The rows that are written fill the tables from the first entry on.
-use Rattle.std.specs.Prelude.{◌≡◌, refl, true, false, List, ℕ, zero, suc, ◌+◌, ◌-◌, ◌*◌, ◌≤◌, ◌<◌, length, get_or, take, drop, Float}
+use Rattle.std.specs.Prelude.{◌≡◌, refl, Option, None, Some, List, ℕ, zero, suc, ◌+◌, ◌-◌, ◌*◌, ◌≤◌, ◌<◌, length, get_or, take, drop, Float}
 use Rattle.std.proofs.Math.Path.{sym, ap}
 use Rattle.std.proofs.Common.{◌∙◌, ⊎_elim, le_trans, le-add_right, eq-or-lt_of_le, arith, add-one, length-append, length-take, length-drop}
 use borrow.Author.Tests.{eq-eqb, ne_eqb}
@@ -29,7 +29,7 @@ module _ (points old out : List Float) (first count : ℕ) where
       put_back first (first + count) old out (cumulative_of cut count) (omega arith)
       (e ∙ ap (cumulative_of cut) (lane_length_law h)) (omega arith)
 
-  pub lane_tangents : (ends : Ends) → out ≡ tangents_of cut count ends
+  pub lane_tangents : (ends : Option Ends) → out ≡ tangents_of cut count ends
       → put_mid (3 * first) (3 * (first + count) - 3 * first) old out ≡ placed (3 * first) (tangents_of cut count ends) old
   lane_tangents ends e =
       let long = length_tangents cut count ends count in
@@ -100,11 +100,11 @@ module _ (lanes : List ℕ) (n : ℕ) (points : List Float) (rows : Rows lanes n
 -- ---- the ends of a lane
 module _ (lanes : List ℕ) (ends : List Float) (i : ℕ) (start end : Vector) (s : start ≡ vector_at ends (2 * i))
     (e : end ≡ vector_at ends (2 * i + 1)) where
-  pub ends_none : get_or lanes (6 * i + 3) 0 ≡ 0 → ◌≡◌ {A = Ends} (record { given = false; start = start; end = end }) (lane_ends lanes ends i)
+  pub ends_none : get_or lanes (6 * i + 3) 0 ≡ 0 → None ≡ lane_ends lanes ends i
   unfolding lane_ends
-  ends_none h = rw (s, e, eq-eqb (get_or lanes (6 * i + 3) 0) 0 h)
+  ends_none h = rw (eq-eqb (get_or lanes (6 * i + 3) 0) 0 h)
 
-  pub ends_given : (get_or lanes (6 * i + 3) 0 ≡ 0 → ⊥) → ◌≡◌ {A = Ends} (record { given = true; start = start; end = end })
+  pub ends_given : (get_or lanes (6 * i + 3) 0 ≡ 0 → ⊥) → ◌≡◌ {A = Option Ends} (Some (record { start = start; end = end }))
       (lane_ends lanes ends i)
   unfolding lane_ends
   ends_given h = rw (s, e, ne_eqb (get_or lanes (6 * i + 3) 0) 0 h)

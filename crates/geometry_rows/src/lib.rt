@@ -21,7 +21,13 @@ fn write_lane_cumulative(points: &[f32], first: usize, count: usize, cumulative:
 }
 
 // Its tangents.
-fn write_lane_tangents(points: &[f32], first: usize, count: usize, ends: Ends, tangents: &mut [f32])
+fn write_lane_tangents(
+    points: &[f32],
+    first: usize,
+    count: usize,
+    ends: Option<Ends>,
+    tangents: &mut [f32],
+)
     requires { (3 * (first + count) ≤ length points.now) × (3 * (first + count) ≤ length tangents.old) }
     ensures { tangents.new ≡ with_tangents points.now first count ends tangents.old }
 {
@@ -30,24 +36,17 @@ fn write_lane_tangents(points: &[f32], first: usize, count: usize, ends: Ends, t
     write_tangents(&points[from..to], count, ends, &mut tangents[from..to]);
 }
 
-// The tangents that lane i gives at its two ends.
-fn lane_ends(lanes: &[usize], ends: &[f32], i: usize) -> Ends
+// The tangents at the two ends of lane i, where it gives them.
+fn lane_ends(lanes: &[usize], ends: &[f32], i: usize) -> Option<Ends>
     requires { (6 * i + 6 ≤ length lanes.now) × (6 * i + 6 ≤ length ends.now) }
     ensures { result ≡ lane_ends lanes.now ends.now i }
 {
     let start = tangent(ends, 2 * i);
     let end = tangent(ends, 2 * i + 1);
     if lanes[6 * i + 3] == 0 {
-        return Ends {
-            given: false,
-            start,
-            end,
-        };
-    }
-    Ends {
-        given: true,
-        start,
-        end,
+        None
+    } else {
+        Some(Ends { start, end })
     }
 }
 

@@ -3,6 +3,7 @@ use mathlib.Core.Path.{◌≡◌, refl, ap, ◌∙◌}
 use Prim.Native.Nat.{ℕ, ◌-◌, ◌*◌, ◌≤◌}
 use native.Mathlib.Omega.{arith}
 use lib.ListN.{length}
+use Rattle.std.specs.Prelude.{Option}
 use Rattle.geometry.specs.declared.Ends.{Ends}
 use Rattle.geometry.specs.Polyline.{tangents_of}
 use Rattle.geometry.specs.PolylineLaws.{length_tangents}
@@ -69,7 +70,7 @@ loop-i-preserved c =
     let room = lane_room lanes a.n a.points.now r.0 l.i c.loop-i-test.true in
     let long = length_tangents points (point_count lanes l.i) (lane_ends lanes a.ends.now l.i) (point_count lanes l.i) in
     let written = c.write_lane_tangents.ensures
-    ∙ ap (λ (e : Ends). placed (3 * first_point lanes l.i) (tangents_of points (point_count lanes l.i) e) l.tangents)
+    ∙ ap (λ (e : Option Ends). placed (3 * first_point lanes l.i) (tangents_of points (point_count lanes l.i) e) l.tangents)
     c.lane_ends.ensures in (
       omega (arith, c.loop-i-test.true),
       ap length written ∙ length_placed (3 * first_point lanes l.i) lane l.tangents (omega (arith, r.1.room, l.invariant.1)) ∙ l.invariant.1,

@@ -8,7 +8,7 @@ returns-then-lanes-i-eq0 c =
     let a = c.args in
     ends_none a.lanes.now a.ends.now a.i _ _ c.tangent-start.ensures c.tangent-end.ensures c.if-lanes-i-eq0.true
 
-pub returns : goal.returns
-returns c =
+pub returns-else-lanes-i-eq0 : goal.returns-else-lanes-i-eq0
+returns-else-lanes-i-eq0 c =
     let a = c.args in
     ends_given a.lanes.now a.ends.now a.i _ _ c.tangent-start.ensures c.tangent-end.ensures c.if-lanes-i-eq0.false
