@@ -1,6 +1,6 @@
 -- The tables that a public call is lent: the nine of a plan, and for each of its points the arc length and the tangent. What they hold of a plan,
 -- and what they hold on return, for every file and all tables. Definitions only.
-use Rattle.std.specs.Prelude.{Bool, not, ◌||◌, List, [], ◌≡◌, ℕ, ◌*◌, eqb, ltb, Float, length}
+use Rattle.std.specs.Prelude.{Bool, cond, ◌||◌, Option, None, Some, List, [], ◌≡◌, ℕ, ◌*◌, eqb, ltb, Float, length}
 use Rattle.geometry.specs.Polyline.{cumulative_of, tangents_of, vector_at}
 use Rattle.geometry.specs.declared.Ends.{Ends}
 use Rattle.plan_format.specs.Plan.{Decoded, Plan, accepted, refused}
@@ -31,9 +31,9 @@ no_lane = record { number = 0; type = 0; direction = 0; ends = 0; count = 0; poi
 abbrev pub cumulative_row : Lane → List Float
 cumulative_row l = cumulative_of l.points l.count
 
--- the tangents that a lane gives at its two ends
-abbrev pub ends_of : Lane → Ends
-ends_of l = record { given = not (eqb l.ends 0); start = vector_at (end_row l) 0; end = vector_at (end_row l) 1 }
+-- the tangents at a lane's two ends, where it gives them
+abbrev pub ends_of : Lane → Option Ends
+ends_of l = cond (eqb l.ends 0) None (Some (record { start = vector_at (end_row l) 0; end = vector_at (end_row l) 1 }))
 
 -- the tangent at each point of a lane, x y z
 abbrev pub tangent_row : Lane → List Float
