@@ -345,7 +345,7 @@ fn consider(
     let first = spans[3 * i + 1];
     let end = spans[3 * i + 2];
     let projection = project(lanes, points, cumulative, row, first, end, p);
-    let d2 = p.sub(projection.point).length_squared();
+    let d2 = (p - projection.point).length_squared();
     measure(d2, i, row, projection, best)
 }
 
