@@ -163,7 +163,7 @@ fn away(lanes: &[usize], points: &[f32], cumulative: &[f32], i: usize, p: Point)
     let e = 3 * end;
     let q = geometry::project(&points[a..e], &cumulative[first..end], p);
     let at = q.point;
-    at.sub(p).length_squared()
+    (at - p).length_squared()
 }
 
 // Whether the lane `next` joins lane i at the end that a branch moving `up` it leaves by, rather than at the other.
