@@ -9,7 +9,6 @@ use native.Mathlib.Numerals.{add-one}
 use native.Mathlib.Omega.{arith}
 use lib.Dec.{ltb, eqb}
 use borrow.Author.Tests.{lt-ltb, le-ltb, le-leb, lt-leb, eqb-false}
-use Rattle.grid.specs.declared.Run.{Run}
 use Rattle.grid.specs.Ring.{count_from, near_to, end_columns, is_edge, columns_of, steps_from, steps, listed, near_run, ends_run, columns_run}
 
 -- ---- a run goes on until it has reached its end

@@ -4,8 +4,7 @@
 // `specs/Grid.antt` and `specs/Ring.antt` say what each function answers.
 #![tactic(auto)]
 
-ghost use Rattle.std.specs.Prelude.{◌≡◌, ◌-◌, ◌<◌, ◌≤◌};
-ghost use Prim.Native.Nat as nat;
+ghost use Rattle.std.specs.Prelude.{◌≡◌, ◌<◌, ◌≤◌};
 ghost use Rattle.grid.specs.Grid.{box_at, grown, padded, merge, outside, dist2, side, first_cell, grid_of, bucket, col_of, row_of};
 ghost use Rattle.grid.specs.Ring.{near_run, ends_run, columns_run, ring_of, is_empty, Inside, reached_at};
 
@@ -177,13 +176,11 @@ impl Grid {
         requires { (cx < 1024) × (cy < 1024) × (r ≤ 1024) × (iy < 1024) }
         ensures { result ≡ columns_run cx cy r self.cols iy }
     {
-        if iy + r == cy {
-            return near(cx, r, self.cols);
+        if iy + r == cy || iy == cy + r {
+            near(cx, r, self.cols)
+        } else {
+            ends(cx, r, self.cols)
         }
-        if iy == cy + r {
-            return near(cx, r, self.cols);
-        }
-        ends(cx, r, self.cols)
     }
 
     // Whether ring r about the cell (cx, cy) has no cell of the grid.
@@ -208,16 +205,9 @@ impl Grid {
     pub fn reached(self, r: usize, d2: f32) -> bool
         ensures { result ≡ reached_at self r d2 }
     {
-        let floor = float::nearest_usize_to_f32(whole_cells(r)) * self.cell;
+        let floor = float::nearest_usize_to_f32(r.saturating_sub(1)) * self.cell;
         d2 <= floor * floor
     }
-}
-
-// (r - 1).max(0).
-fn whole_cells(r: usize) -> usize
-    ensures { result ≡ r - 1 }
-{
-    if r < 1 { 0 } else { r - 1 }
 }
 
 // The first cell size: of so many cells that each gets two items.
@@ -236,14 +226,7 @@ fn first_cell(w: f32, h: f32, items: usize) -> f32
 fn side(cells: f32) -> usize
     ensures { result ≡ side cells }
 {
-    let n = float::saturating_f32_to_usize(float::ceil(cells));
-    if n < 1 {
-        return 1;
-    }
-    if MAX_DIM < n {
-        return MAX_DIM;
-    }
-    n
+    float::saturating_f32_to_usize(float::ceil(cells)).clamp(1, MAX_DIM)
 }
 
 // The cell that holds `offset`, of `count` cells: NaN and negatives go to 0, the last cell takes what is above.
@@ -252,21 +235,7 @@ pub fn bucket(offset: f32, cell: f32, count: usize) -> usize
     requires { 0 < count }
     ensures { result ≡ bucket offset cell count }
 {
-    min(float::saturating_f32_to_usize(offset / cell), count - 1)
-}
-
-// Rust's `usize::min`.
-pub fn min(a: usize, b: usize) -> usize
-    ensures { result ≡ nat.min a b }
-{
-    if a < b { a } else { b }
-}
-
-// Rust's `usize::max`.
-pub fn max(a: usize, b: usize) -> usize
-    ensures { result ≡ nat.max a b }
-{
-    if a < b { b } else { a }
+    float::saturating_f32_to_usize(offset / cell).min(count - 1)
 }
 
 // c - r ..= c + r, those below n.
@@ -274,16 +243,9 @@ fn near(c: usize, r: usize, n: usize) -> Run
     requires { (c < 1024) × (r ≤ 1024) }
     ensures { result ≡ near_run c r n }
 {
-    let end = min(n, c + r + 1);
-    if r <= c {
-        return Run {
-            first: c - r,
-            end,
-            step: 1,
-        };
-    }
+    let end = n.min(c + r + 1);
     Run {
-        first: 0,
+        first: c.saturating_sub(r),
         end,
         step: 1,
     }
@@ -294,17 +256,10 @@ fn ends(c: usize, r: usize, n: usize) -> Run
     requires { (c < 1024) × (r ≤ 1024) }
     ensures { result ≡ ends_run c r n }
 {
-    let all = near(c, r, n);
-    if c < r {
-        return Run {
-            first: c + r,
-            end: all.end,
-            step: 2 * r,
-        };
-    }
+    let first = if c < r { c + r } else { c - r };
     Run {
-        first: all.first,
-        end: all.end,
+        first,
+        end: n.min(c + r + 1),
         step: 2 * r,
     }
 }

@@ -1,5 +1,5 @@
 -- How lanes, spans and answers stand in the tables that the code reads and writes; crate `rows` says how rows of lanes are read. Definitions only.
-use Rattle.std.specs.Prelude.{◌≡◌, Bool, ◌&&◌, leb, List, [], ◌∷◌, ℕ, zero, suc, ◌+◌, ◌-◌, ◌*◌, ◌<◌, ◌≤◌, length, get_or, Float}
+use Rattle.std.specs.Prelude.{◌≡◌, Bool, ◌&&◌, leb, List, [], ◌∷◌, ℕ, zero, suc, ◌+◌, ◌-◌, ◌*◌, ◌<◌, ◌≤◌, length, get_or, Float, Option, None, Some}
 use Rattle.std.specs.Float.{nan}
 use Rattle.geometry.specs.declared.Projection.{Projection}
 use Rattle.geometry.specs.Polyline.{cumulative_of}
@@ -11,7 +11,6 @@ use Rattle.grid.specs.declared.Grid.{Grid}
 use Rattle.grid.specs.Grid.{col_of, row_of, Sides}
 use Rattle.network.specs.declared.LaneIndex.{LaneIndex}
 use Rattle.network.specs.declared.Nearest.{Nearest}
-use Rattle.network.specs.declared.Nearest.TheVariants.{None, Found}
 use Rattle.network.specs.Lanes.{Lane, Span}
 use Rattle.network.specs.Nearest.{Best, none, found, boxes_of, grid_for, Item, item_of, items_from, ceiling, wins, enough, measured}
 
@@ -164,25 +163,25 @@ pub record Index (lanes : List ℕ) (points cumulative : List Float) (spans : Li
 
 -- ---- answers
 
-abbrev pub told : Best → Nearest
+abbrev pub told : Best → Option Nearest
 told none = None
-told (found d i l q) = Found d i l.row q
+told (found d i l q) = Some (record { dist2 = d; span = i; row = l.row; projection = q })
 
 -- the definition's form of an answer
-abbrev pub best_of : List ℕ → List Float → Nearest → Best
+abbrev pub best_of : List ℕ → List Float → Option Nearest → Best
 best_of lanes points None = none
-best_of lanes points (Found d i row q) = found d i (lane_at lanes points row) q
+best_of lanes points (Some b) = found b.dist2 b.span (lane_at lanes points b.row) b.projection
 
 -- what the steps that know no lanes answer, whatever the lanes are
-abbrev pub CeilingIs : Nearest → Float → Type 0
+abbrev pub CeilingIs : Option Nearest → Float → Type 0
 CeilingIs best r = (lanes : List ℕ) (points : List Float) → r ≡ ceiling (best_of lanes points best)
 
-abbrev pub WinsIs : Float → ℕ → Nearest → Bool → Type 0
+abbrev pub WinsIs : Float → ℕ → Option Nearest → Bool → Type 0
 WinsIs d2 item best r = (lanes : List ℕ) (points : List Float) → r ≡ wins d2 item (best_of lanes points best)
 
-abbrev pub EnoughIs : Grid → ℕ → Nearest → Bool → Type 0
+abbrev pub EnoughIs : Grid → ℕ → Option Nearest → Bool → Type 0
 EnoughIs g ring best r = (lanes : List ℕ) (points : List Float) → r ≡ enough g ring (best_of lanes points best)
 
-abbrev pub MeasuredIs : Float → ℕ → ℕ → Projection → Nearest → Nearest → Type 0
+abbrev pub MeasuredIs : Float → ℕ → ℕ → Projection → Option Nearest → Option Nearest → Type 0
 MeasuredIs d2 item row q best r =
     (lanes : List ℕ) (points : List Float) → best_of lanes points r ≡ measured d2 item (lane_at lanes points row) q (best_of lanes points best)

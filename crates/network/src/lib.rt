@@ -13,7 +13,7 @@ ghost use Rattle.grid.specs.Grid.{extent_of, Sides};
 ghost use Rattle.grid.specs.Ring.{listed, row_cells, ring_of, Inside};
 ghost use Rattle.network.specs.Lanes.{around, driving, drives_table};
 ghost use Rattle.network.specs.Tables.{lane_at, lanes_from, Row, Rows, box_row, box_in, box_list, range_row, Added, Room, Built};
-ghost use Rattle.network.specs.Tables.{span_list, item_in, item_list, Line, Index, within, told, best_of};
+ghost use Rattle.network.specs.Tables.{Line, Index, within, told};
 ghost use Rattle.network.specs.Tables.{CeilingIs, WinsIs, EnoughIs, MeasuredIs};
 ghost use Rattle.network.specs.Nearest.{offered, offered_in, visit_cell, visit_ring, searched, grid_for, nearest_of};
 
@@ -40,11 +40,13 @@ pub struct LaneIndex {
     pub grid: Grid,
 }
 
-// The nearest span: none, or the squared distance, the span's number, its lane's row and the projection.
+// The nearest span so far: the squared distance, the span's number, its lane's row and the projection onto it.
 #[derive(Clone, Copy)]
-pub enum Nearest {
-    None,
-    Found(f32, usize, usize, Projection),
+pub struct Nearest {
+    pub dist2: f32,
+    pub span: usize,
+    pub row: usize,
+    pub projection: Projection,
 }
 
 // ---- the index
@@ -56,10 +58,8 @@ fn around(line: &[f32], first: usize, end: usize) -> Aabb
 {
     let a = geometry::vertex(line, first);
     let mut b = Aabb::at(a.x, a.y);
-    let mut i = first;
-    while i < end {
-        i += 1;
-        let p = geometry::vertex(line, i);
+    for i in first..end {
+        let p = geometry::vertex(line, i + 1);
         b = b.grown(p.x, p.y);
     }
     b
@@ -112,14 +112,11 @@ fn add_lane(
     let a = 3 * from;
     let e = 3 * (from + count);
     let line = &points[a..e];
-    let mut first = 0;
     let mut at = k;
-    while first < count - 1 {
-        let next = first + SPAN_SEGMENTS;
-        let end = grid::min(next, count - 1);
+    for first in (0..count - 1).step_by(SPAN_SEGMENTS) {
+        let end = (first + SPAN_SEGMENTS).min(count - 1);
         write_span(spans, at, row, first, end);
         write_box(boxes, at, around(line, first, end).padded(0.0));
-        first = next;
         at += 1;
     }
     at
@@ -139,11 +136,9 @@ fn write_spans(
     ensures { Added (driving drives.now (lanes_from lanes.now points.now n 0)) 0 result
         spans.old spans.new boxes.old boxes.new }
 {
-    let mut row = 0;
     let mut k = 0;
-    while row < n {
+    for row in 0..n {
         k = add_lane(lanes, points, drives, row, k, spans, boxes);
-        row += 1;
     }
     k
 }
@@ -168,10 +163,8 @@ fn extent(boxes: &[f32], n: usize) -> Aabb
     ensures { result ≡ extent_of (box_in boxes.now 0) (box_list boxes.now (n - 1) 1) }
 {
     let mut b = box_at(boxes, 0);
-    let mut i = 1;
-    while i < n {
+    for i in 1..n {
         b = b.merge(box_at(boxes, i));
-        i += 1;
     }
     b
 }
@@ -193,10 +186,8 @@ fn write_ranges(boxes: &[f32], n: usize, g: Grid, ranges: &mut [usize])
     requires { (4 * n ≤ length boxes.now) × (4 * n ≤ length ranges.old) × (0 < g.cols) × (0 < g.rows) }
     ensures { ranges.new ≡ over (rows (range_row g) (box_list boxes.now n 0)) ranges.old }
 {
-    let mut i = 0;
-    while i < n {
+    for i in 0..n {
         write_range(ranges, i, g, box_at(boxes, i));
-        i += 1;
     }
 }
 
@@ -249,27 +240,27 @@ pub fn driving(
 // ---- the nearest span
 
 // The squared distance to beat: none yet, any.
-fn ceiling(best: Nearest) -> f32
+fn ceiling(best: Option<Nearest>) -> f32
     ensures { CeilingIs best result }
 {
     match best {
-        Nearest::None => 1.0 / 0.0,
-        Nearest::Found(d, _, _, _) => d,
+        None => 1.0 / 0.0,
+        Some(b) => b.dist2,
     }
 }
 
 // Whether (d2, item) comes before the best so far; anything does before there is one.
-fn wins(d2: f32, item: usize, best: Nearest) -> bool
+fn wins(d2: f32, item: usize, best: Option<Nearest>) -> bool
     ensures { WinsIs d2 item best result }
 {
     match best {
-        Nearest::None => true,
-        Nearest::Found(d, i, _, _) => {
-            if d2 < d {
+        None => true,
+        Some(b) => {
+            if d2 < b.dist2 {
                 return true;
             }
-            if d2 == d {
-                return item < i;
+            if d2 == b.dist2 {
+                return item < b.span;
             }
             false
         }
@@ -277,282 +268,194 @@ fn wins(d2: f32, item: usize, best: Nearest) -> bool
 }
 
 // Whether nothing in ring r or beyond can beat the best so far.
-fn enough(g: Grid, r: usize, best: Nearest) -> bool
+fn enough(g: Grid, r: usize, best: Option<Nearest>) -> bool
     ensures { EnoughIs g r best result }
 {
     match best {
-        Nearest::None => false,
-        Nearest::Found(d, _, _, _) => g.reached(r, d),
+        None => false,
+        Some(b) => g.reached(r, b.dist2),
     }
 }
 
 // The best so far against a span that was measured.
-fn measure(d2: f32, item: usize, row: usize, projection: Projection, best: Nearest) -> Nearest
+fn measure(
+    d2: f32,
+    item: usize,
+    row: usize,
+    projection: Projection,
+    best: Option<Nearest>,
+) -> Option<Nearest>
     ensures { MeasuredIs d2 item row projection best result }
 {
     if float::is_nan(d2) {
         return best;
     }
     if wins(d2, item, best) {
-        return Nearest::Found(d2, item, row, projection);
+        return Some(Nearest {
+            dist2: d2,
+            span: item,
+            row,
+            projection,
+        });
     }
     best
 }
 
-// The projection onto segments of the lane in a row.
-fn project(
-    lanes: &[usize],
-    points: &[f32],
-    cumulative: &[f32],
-    row: usize,
-    first: usize,
-    end: usize,
-    p: Point,
-) -> Projection
-    requires { Line lanes.now points.now cumulative.now row × (first < end) × (end < point_count lanes.now row) }
-    ensures { result ≡ project_segments (points_of lanes.now points.now row)
-        (arcs_of lanes.now cumulative.now row) p first end }
-{
-    let from = lanes[6 * row + 4];
-    let to = from + lanes[6 * row + 5];
-    let a = 3 * from;
-    let e = 3 * to;
-    geometry::project_segments(&points[a..e], &cumulative[from..to], p, first, end)
+// An index with the tables that it stands in: what a query reads.
+#[derive(Clone, Copy)]
+pub struct Spans<'a> {
+    pub lanes: &'a [usize],
+    pub points: &'a [f32],
+    pub cumulative: &'a [f32],
+    pub spans: &'a [usize],
+    pub boxes: &'a [f32],
+    pub ranges: &'a [usize],
+    pub index: LaneIndex,
+    pub ghost indexed: { Index lanes.now points.now cumulative.now spans.now boxes.now ranges.now index },
 }
 
-// Span i against the best so far. A span whose box already loses is not measured.
-fn consider(
-    lanes: &[usize],
-    points: &[f32],
-    cumulative: &[f32],
-    spans: &[usize],
-    boxes: &[f32],
-    ranges: &[usize],
-    index: LaneIndex,
-    p: Point,
-    i: usize,
-    best: Nearest,
-) -> Nearest
-    requires { Index lanes.now points.now cumulative.now spans.now boxes.now ranges.now index × (i < index.count) }
-    ensures { best_of lanes.now points.now result
-        ≡ offered true p (item_in lanes.now points.now spans.now boxes.now index i)
-        (best_of lanes.now points.now best) }
-{
-    if ceiling(best) < box_at(boxes, i).dist2(p.x, p.y) {
-        return best;
-    }
-    let row = spans[3 * i];
-    let first = spans[3 * i + 1];
-    let end = spans[3 * i + 2];
-    let projection = project(lanes, points, cumulative, row, first, end, p);
-    let d2 = (p - projection.point).length_squared();
-    measure(d2, i, row, projection, best)
-}
+impl<'a> Spans<'a> {
+    ghost use Rattle.network.specs.Indexed.{spans_of, items_of, item_at, best_in};
 
-// Whether the columns and rows of span i hold a cell.
-fn holds(ranges: &[usize], i: usize, ix: usize, iy: usize) -> bool
-    requires { 4 * i + 3 < length ranges.now }
-    ensures { result ≡ within ranges.now i ix iy }
-{
-    let at = 4 * i;
-    if ix < ranges[at] {
-        return false;
+    // The projection onto segments of the lane in a row.
+    fn project(&self, row: usize, first: usize, end: usize, p: Point) -> Projection
+        requires { Line self.now.lanes.now self.now.points.now self.now.cumulative.now row × (first < end)
+            × (end < point_count self.now.lanes.now row) }
+        ensures { result ≡ project_segments (points_of self.now.lanes.now self.now.points.now row)
+            (arcs_of self.now.lanes.now self.now.cumulative.now row) p first end }
+    {
+        let from = self.lanes[6 * row + 4];
+        let to = from + self.lanes[6 * row + 5];
+        let line = &self.points[3 * from..3 * to];
+        geometry::project_segments(line, &self.cumulative[from..to], p, first, end)
     }
-    if ranges[at + 1] < ix {
-        return false;
-    }
-    if iy < ranges[at + 2] {
-        return false;
-    }
-    iy <= ranges[at + 3]
-}
 
-// Span i against the best so far, if the cell's list has it.
-fn offer(
-    lanes: &[usize],
-    points: &[f32],
-    cumulative: &[f32],
-    spans: &[usize],
-    boxes: &[f32],
-    ranges: &[usize],
-    index: LaneIndex,
-    p: Point,
-    cell: Cell,
-    i: usize,
-    best: Nearest,
-) -> Nearest
-    requires { Index lanes.now points.now cumulative.now spans.now boxes.now ranges.now index × (i < index.count) }
-    ensures { best_of lanes.now points.now result
-        ≡ offered_in (item_in lanes.now points.now spans.now boxes.now index i) p cell
-        (best_of lanes.now points.now best) }
-{
-    if holds(ranges, i, cell.ix, cell.iy) {
-        return consider(
-            lanes, points, cumulative, spans, boxes, ranges, index, p, i, best,
-        );
-    }
-    best
-}
-
-// The spans of one cell, in rising number.
-fn visit_cell(
-    lanes: &[usize],
-    points: &[f32],
-    cumulative: &[f32],
-    spans: &[usize],
-    boxes: &[f32],
-    ranges: &[usize],
-    index: LaneIndex,
-    p: Point,
-    cell: Cell,
-    best: Nearest,
-) -> Nearest
-    requires { Index lanes.now points.now cumulative.now spans.now boxes.now ranges.now index }
-    ensures { best_of lanes.now points.now result
-        ≡ visit_cell p cell
-        (item_list lanes.now points.now spans.now boxes.now index index.count 0)
-        (best_of lanes.now points.now best) }
-{
-    let n = index.count;
-    let mut b = best;
-    let mut i = 0;
-    while i < n {
-        b = offer(
-            lanes, points, cumulative, spans, boxes, ranges, index, p, cell, i, b,
-        );
-        i += 1;
-    }
-    b
-}
-
-// The cells of one row of a ring, from low to high.
-fn visit_row(
-    lanes: &[usize],
-    points: &[f32],
-    cumulative: &[f32],
-    spans: &[usize],
-    boxes: &[f32],
-    ranges: &[usize],
-    index: LaneIndex,
-    p: Point,
-    iy: usize,
-    columns: Run,
-    best: Nearest,
-) -> Nearest
-    requires { Index lanes.now points.now cumulative.now spans.now boxes.now ranges.now index
-        × (0 < columns.step) × (columns.step ≤ 2048) × (columns.end ≤ 1024) }
-    ensures { best_of lanes.now points.now result
-        ≡ visit_ring p (item_list lanes.now points.now spans.now boxes.now index index.count 0)
-        (row_cells iy (listed columns) []) (best_of lanes.now points.now best) }
-{
-    let end = columns.end;
-    let step = columns.step;
-    let mut b = best;
-    let mut ix = columns.first;
-    while ix < end {
-        let cell = Cell { ix, iy };
-        b = visit_cell(
-            lanes, points, cumulative, spans, boxes, ranges, index, p, cell, b,
-        );
-        ix += step;
-    }
-    b
-}
-
-// The cells of ring r about the cell (cx, cy), row by row.
-fn visit_ring(
-    lanes: &[usize],
-    points: &[f32],
-    cumulative: &[f32],
-    spans: &[usize],
-    boxes: &[f32],
-    ranges: &[usize],
-    index: LaneIndex,
-    p: Point,
-    cx: usize,
-    cy: usize,
-    r: usize,
-    best: Nearest,
-) -> Nearest
-    requires { Index lanes.now points.now cumulative.now spans.now boxes.now ranges.now index
-        × Sides index.grid × Inside index.grid cx cy × (r ≤ 1024) }
-    ensures { best_of lanes.now points.now result
-        ≡ visit_ring p (item_list lanes.now points.now spans.now boxes.now index index.count 0)
-        (ring_of index.grid.cols index.grid.rows cx cy r) (best_of lanes.now points.now best) }
-{
-    let g = index.grid;
-    let rows = g.ring_rows(cy, r);
-    let end = rows.end;
-    let mut b = best;
-    let mut iy = rows.first;
-    while iy < end {
-        let columns = g.ring_columns(cx, cy, r, iy);
-        b = visit_row(
-            lanes, points, cumulative, spans, boxes, ranges, index, p, iy, columns, b,
-        );
-        iy += 1;
-    }
-    b
-}
-
-// `Grid::nearest`: ring by ring, until nothing farther out can beat the best, or the rings have outgrown the grid.
-fn search(
-    lanes: &[usize],
-    points: &[f32],
-    cumulative: &[f32],
-    spans: &[usize],
-    boxes: &[f32],
-    ranges: &[usize],
-    index: LaneIndex,
-    p: Point,
-) -> Nearest
-    requires { Index lanes.now points.now cumulative.now spans.now boxes.now ranges.now index × (0 < index.count) }
-    ensures { best_of lanes.now points.now result
-        ≡ searched p index.grid
-        (span_list lanes.now points.now spans.now boxes.now index.count 0) }
-{
-    let g = index.grid;
-    let cx = g.col(p.x);
-    let cy = g.row(p.y);
-    let last = grid::max(g.cols, g.rows);
-    let mut best = Nearest::None;
-    let mut r = 0;
-    while r <= last {
-        if enough(g, r, best) {
+    // Span i against the best so far. A span whose box already loses is not measured.
+    fn consider(&self, p: Point, i: usize, best: Option<Nearest>) -> Option<Nearest>
+        requires { i < self.now.index.count }
+        ensures { best_in self.now result
+            ≡ offered true p (item_at self.now i)
+            (best_in self.now best) }
+    {
+        if ceiling(best) < box_at(self.boxes, i).dist2(p.x, p.y) {
             return best;
         }
-        if g.outgrown(cx, cy, r) {
-            return best;
-        }
-        best = visit_ring(
-            lanes, points, cumulative, spans, boxes, ranges, index, p, cx, cy, r, best,
-        );
-        r += 1;
+        let row = self.spans[3 * i];
+        let first = self.spans[3 * i + 1];
+        let end = self.spans[3 * i + 2];
+        let projection = self.project(row, first, end, p);
+        let d2 = (p - projection.point).length_squared();
+        measure(d2, i, row, projection, best)
     }
-    best
-}
 
-// The nearest of the spans of an index to p, with the projection onto it; none for a point that is not finite.
-pub fn nearest_lane(
-    lanes: &[usize],
-    points: &[f32],
-    cumulative: &[f32],
-    spans: &[usize],
-    boxes: &[f32],
-    ranges: &[usize],
-    index: LaneIndex,
-    p: Point,
-) -> Nearest
-    requires { Index lanes.now points.now cumulative.now spans.now boxes.now ranges.now index
-        × (index.grid ≡ grid_for (span_list lanes.now points.now spans.now boxes.now index.count 0)) }
-    ensures { result ≡ told (nearest_of
-        (span_list lanes.now points.now spans.now boxes.now index.count 0) p) }
-{
-    if index.count == 0 {
-        return Nearest::None;
+    // Whether the columns and rows of span i hold a cell.
+    fn holds(&self, i: usize, cell: Cell) -> bool
+        requires { i < self.now.index.count }
+        ensures { result ≡ within self.now.ranges.now i cell.ix cell.iy }
+    {
+        let at = 4 * i;
+        if cell.ix < self.ranges[at] {
+            return false;
+        }
+        if self.ranges[at + 1] < cell.ix {
+            return false;
+        }
+        if cell.iy < self.ranges[at + 2] {
+            return false;
+        }
+        cell.iy <= self.ranges[at + 3]
     }
-    if p.is_finite() {
-        return search(lanes, points, cumulative, spans, boxes, ranges, index, p);
+
+    // Span i against the best so far, if the cell's list has it.
+    fn offer(&self, p: Point, cell: Cell, i: usize, best: Option<Nearest>) -> Option<Nearest>
+        requires { i < self.now.index.count }
+        ensures { best_in self.now result
+            ≡ offered_in (item_at self.now i) p cell
+            (best_in self.now best) }
+    {
+        if self.holds(i, cell) {
+            return self.consider(p, i, best);
+        }
+        best
     }
-    Nearest::None
+
+    // The spans of one cell, in rising number.
+    fn visit_cell(&self, p: Point, cell: Cell, best: Option<Nearest>) -> Option<Nearest>
+        ensures { best_in self.now result ≡ visit_cell p cell (items_of self.now)
+            (best_in self.now best) }
+    {
+        let mut b = best;
+        for i in 0..self.index.count {
+            b = self.offer(p, cell, i, b);
+        }
+        b
+    }
+
+    // The cells of one row of a ring, from low to high.
+    fn visit_row(&self, p: Point, iy: usize, columns: Run, best: Option<Nearest>) -> Option<Nearest>
+        requires { (0 < columns.step) × (columns.step ≤ 2048) × (columns.end ≤ 1024) }
+        ensures { best_in self.now result
+            ≡ visit_ring p (items_of self.now) (row_cells iy (listed columns) []) (best_in self.now best) }
+    {
+        let mut b = best;
+        for ix in (columns.first..columns.end).step_by(columns.step) {
+            b = self.visit_cell(p, Cell { ix, iy }, b);
+        }
+        b
+    }
+
+    // The cells of ring r about a cell, row by row.
+    fn visit_ring(&self, p: Point, center: Cell, r: usize, best: Option<Nearest>) -> Option<Nearest>
+        requires { Sides self.now.index.grid × Inside self.now.index.grid center.ix center.iy × (r ≤ 1024) }
+        ensures { best_in self.now result
+            ≡ visit_ring p (items_of self.now)
+            (ring_of self.now.index.grid.cols self.now.index.grid.rows center.ix center.iy r)
+            (best_in self.now best) }
+    {
+        let g = self.index.grid;
+        let rows = g.ring_rows(center.iy, r);
+        let mut b = best;
+        for iy in rows.first..rows.end {
+            b = self.visit_row(p, iy, g.ring_columns(center.ix, center.iy, r, iy), b);
+        }
+        b
+    }
+
+    // `Grid::nearest`: ring by ring, until nothing farther out can beat the best, or the rings have outgrown the grid.
+    fn search(&self, p: Point) -> Option<Nearest>
+        requires { 0 < self.now.index.count }
+        ensures { best_in self.now result ≡ searched p self.now.index.grid (spans_of self.now) }
+    {
+        let g = self.index.grid;
+        let center = Cell {
+            ix: g.col(p.x),
+            iy: g.row(p.y),
+        };
+        let last = g.cols.max(g.rows);
+        let mut best = None;
+        for r in 0..=last {
+            if enough(g, r, best) {
+                return best;
+            }
+            if g.outgrown(center.ix, center.iy, r) {
+                return best;
+            }
+            best = self.visit_ring(p, center, r, best);
+        }
+        best
+    }
+
+    // The nearest of the spans to p, with the projection onto it; none for a point that is not finite.
+    pub fn nearest_lane(&self, p: Point) -> Option<Nearest>
+        requires { self.now.index.grid ≡ grid_for (spans_of self.now) }
+        ensures { result ≡ told (nearest_of (spans_of self.now) p) }
+    {
+        if self.index.count == 0 {
+            return None;
+        }
+        if p.is_finite() {
+            return self.search(p);
+        }
+        None
+    }
 }

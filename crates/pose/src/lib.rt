@@ -1,7 +1,7 @@
 // The pose on a lane at an arc length, over the rows of a plan.
 #![tactic(auto)]
 
-ghost use Rattle.std.specs.Prelude.{◌≡◌};
+ghost use Rattle.std.specs.Prelude.{◌≡◌, ◌<◌};
 ghost use Rattle.geometry.specs.Locate.{pose_along};
 ghost use Rattle.rows.specs.Rows.{arcs_of, points_of, tangents_of};
 ghost use Rattle.pose.specs.Lanes.{refused_pose, pose_row, Polyline, Polylines};
@@ -40,47 +40,44 @@ pub fn refuse(n: usize) -> Posed
     }
 }
 
-// The pose on the lane of row i.
-fn pose_on(
-    lanes: &[usize],
-    points: &[f32],
-    cumulative: &[f32],
-    tangents: &[f32],
-    i: usize,
-    s: f32,
-) -> Pose
-    requires { Polyline lanes.now points.now cumulative.now tangents.now i }
-    ensures { result ≡ pose_along (points_of lanes.now points.now i)
-        (arcs_of lanes.now cumulative.now i) (tangents_of lanes.now tangents.now i) s }
-{
-    let first = lanes[6 * i + 4];
-    let end = first + lanes[6 * i + 5];
-    let a = 3 * first;
-    let b = 3 * end;
-    let ps = &points[a..b];
-    let cs = &cumulative[first..end];
-    let ts = &tangents[a..b];
-    pose_at(ps, cs, ts, s)
+// The lanes of a plan with their polylines: a row for each lane, and for each point its place, its arc length and its tangent.
+#[derive(Clone, Copy)]
+pub struct Lanes<'a> {
+    pub count: usize,
+    pub rows: &'a [usize],
+    pub points: &'a [f32],
+    pub cumulative: &'a [f32],
+    pub tangents: &'a [f32],
+    pub ghost polylines: { Polylines count rows.now points.now cumulative.now tangents.now },
 }
 
-// The pose on a lane at the arc length s, which is clamped to the lane; 12 for a lane that is not among the n rows. A NaN s is not clamped:
-// it lies on the first segment and gives a NaN position with a zero heading, or that segment's start where it is at most 1e-6 long.
-pub fn pose_in(
-    lane: LaneId,
-    s: f32,
-    n: usize,
-    lanes: &[usize],
-    points: &[f32],
-    cumulative: &[f32],
-    tangents: &[f32],
-) -> Posed
-    requires { Polylines n lanes.now points.now cumulative.now tangents.now }
-    ensures { result ≡ pose_row lane.0 s n lanes.now points.now cumulative.now tangents.now }
-{
-    let i = find_lane(lane, lanes, n);
-    if i == 256 {
-        return refuse(12);
+impl<'a> Lanes<'a> {
+    // The pose on the lane of row i.
+    fn pose_on(&self, i: usize, s: f32) -> Pose
+        requires { i < self.now.count }
+        ensures { result ≡ pose_along (points_of self.now.rows.now self.now.points.now i)
+            (arcs_of self.now.rows.now self.now.cumulative.now i) (tangents_of self.now.rows.now self.now.tangents.now i) s }
+    {
+        let first = self.rows[6 * i + 4];
+        let end = first + self.rows[6 * i + 5];
+        let ps = &self.points[3 * first..3 * end];
+        let cs = &self.cumulative[first..end];
+        let ts = &self.tangents[3 * first..3 * end];
+        pose_at(ps, cs, ts, s)
     }
-    let pose = pose_on(lanes, points, cumulative, tangents, i, s);
-    Posed { number: 0, pose }
+
+    // The pose on a lane at the arc length s, which is clamped to the lane; 12 for a lane that is not among the rows. A NaN s is not clamped:
+    // it lies on the first segment and gives a NaN position with a zero heading, or that segment's start where it is at most 1e-6 long.
+    pub fn pose(&self, lane: LaneId, s: f32) -> Posed
+        ensures { result ≡ pose_row lane.0 s self.now.count self.now.rows.now self.now.points.now self.now.cumulative.now self.now.tangents.now }
+    {
+        let i = find_lane(lane, self.rows, self.count);
+        if i == 256 {
+            return refuse(12);
+        }
+        Posed {
+            number: 0,
+            pose: self.pose_on(i, s),
+        }
+    }
 }

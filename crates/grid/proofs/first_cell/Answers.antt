@@ -6,7 +6,6 @@ use Rattle.float.specs.Root.{sqrt_of}
 use Rattle.float.specs.Choose.{max_of}
 use Rattle.coords.specs.Coords.{one⁺}
 use Rattle.grid.specs.Grid.{two, max_dim, milli, of_whole, first_cell}
-use borrow.Author.Rules.{rules}
 use Rattle.grid.proofs.first_cell.Goals as goal
 
 module _ (w h : Float) (items : ℕ) where

@@ -27,34 +27,10 @@ module _ (line : List Float) (first : ℕ) where
       let same : first + suc (i - first) ≡ i + 1 = omega arith in
       rw (more, same) (cc)
 
-pub vertex-a-requires : goal.vertex-a-requires
-vertex-a-requires c = omega arith
-
-pub at-b-requires : goal.at-b-requires
-at-b-requires c = omega arith
-
 pub loop-i-init : goal.loop-i-init
-loop-i-init c = (omega arith, omega arith, first_point_law _ _ c.vertex-a.ensures c.at-b.ensures)
-
-pub overflow_add-i : goal.overflow_add-i
-overflow_add-i c = omega arith
-
-pub vertex-p-requires : goal.vertex-p-requires
-vertex-p-requires c = omega arith
-
-pub grown-b-requires : goal.grown-b-requires
-grown-b-requires c = omega arith
-
-pub loop-i-smaller : goal.loop-i-smaller
-loop-i-smaller c = omega arith
+loop-i-init c = (first_point_law _ _ c.vertex-a.ensures c.at-b.ensures)
 
 pub loop-i-preserved : goal.loop-i-preserved
 loop-i-preserved c =
     let l = c.loop-i in
-    (omega arith, omega arith, next_point _ _ l.i l.invariant.0 l.invariant.2 c.vertex-p.ensures c.grown-b.ensures)
-
-pub returns : goal.returns
-returns c =
-    let l = c.loop-i in
-    let e : l.i ≡ c.args.end = omega arith in
-    rw (← e) l.invariant.2
+    next_point _ _ l.i (omega arith) l.invariant c.vertex-p.ensures c.grown-b.ensures

@@ -1,7 +1,6 @@
 -- `box_at` reads the four entries.
 use mathlib.Core.Path.{refl}
 use Rattle.network.specs.Tables.{box_in}
-use borrow.Author.Rules.{rules}
 use Rattle.network.proofs.box_at.Goals as goal
 
 pub returns : goal.returns

@@ -6,7 +6,6 @@ use Rattle.grid.specs.Grid.{Sides}
 use Rattle.grid.proofs.Sides.{sides}
 use Rattle.network.specs.Nearest.{grid_for}
 use Rattle.network.proofs.Index.{built_none, built_some, boxes_room_law, grid_is}
-use borrow.Author.Rules.{rules}
 use Rattle.network.proofs.build.Goals as goal
 
 pub returns-then-count-eq0 : goal.returns-then-count-eq0

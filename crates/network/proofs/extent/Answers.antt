@@ -1,7 +1,7 @@
 -- `extent` merges one box a turn: what is left to merge makes of the box now what all make of the first.
-use mathlib.Core.Path.{◌≡◌, refl, ◌∙◌, ap}
+use mathlib.Core.Path.{◌≡◌, ◌∙◌, ap}
 use mathlib.Core.List.{List}
-use Prim.Native.Nat.{ℕ, zero, suc, ◌+◌, ◌-◌, ◌<◌, ◌≤◌}
+use Prim.Native.Nat.{ℕ, zero, suc, ◌+◌, ◌-◌, ◌<◌}
 use native.Mathlib.Numerals.{add-one}
 use native.Mathlib.Omega.{arith}
 use lib.Ieee.{Float}
@@ -24,36 +24,18 @@ module _ (boxes : List Float) (whole : Aabb) where
   last_box zero i b z e = e
   last_box (suc n) i b z e = absurd (omega arith)
 
-pub box_at-b-requires : goal.box_at-b-requires
-box_at-b-requires c = omega arith
-
-pub loop-i-init : goal.loop-i-init
-loop-i-init c = (omega arith, omega arith, refl)
-
-pub box_at-requires : goal.box_at-requires
-box_at-requires c = omega arith
-
-pub merge-b-requires : goal.merge-b-requires
-merge-b-requires c = omega arith
-
-pub overflow_add-i : goal.overflow_add-i
-overflow_add-i c = omega arith
-
-pub loop-i-smaller : goal.loop-i-smaller
-loop-i-smaller c = omega arith
-
 pub loop-i-preserved : goal.loop-i-preserved
 loop-i-preserved c =
     let l = c.loop-i in
     let a = c.args in
     let less : a.n - (l.i + 1) ≡ a.n - l.i - 1 = omega arith in
     let next =
-    next_box a.boxes.now _ (a.n - l.i) l.i l.b _ _ (omega arith) c.box_at.ensures c.merge-b.ensures l.invariant.2 in
-    (omega arith, omega arith, rw less next)
+    next_box a.boxes.now _ (a.n - l.i) l.i l.b _ _ (omega arith) c.box_at.ensures c.merge-b.ensures l.invariant in
+    rw less next
 
 pub returns : goal.returns
 returns c =
     let l = c.loop-i in
     let a = c.args in
     last_box a.boxes.now _ (a.n - l.i) l.i l.b (omega arith)
-    (l.invariant.2 ∙ ap (λ (v : Aabb). extent_of v (box_list a.boxes.now (a.n - 1) 1)) c.box_at-b.ensures)
+    (l.invariant ∙ ap (λ (v : Aabb). extent_of v (box_list a.boxes.now (a.n - 1) 1)) c.box_at-b.ensures)

@@ -1,7 +1,6 @@
 -- `measure` tests for a NaN first, then whether the span wins.
 use mathlib.Core.Path.{◌∙◌, sym}
 use Rattle.network.proofs.Walk.{measured_nan, measured_wins, measured_loses}
-use borrow.Author.Rules.{rules}
 use Rattle.network.proofs.measure.Goals as goal
 
 pub returns-then-is_nan : goal.returns-then-is_nan

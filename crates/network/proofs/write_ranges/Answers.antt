@@ -4,7 +4,7 @@ use lib.Ieee.{Float}
 use lib.Seq.{sets}
 use Rattle.grid.specs.declared.Aabb.{Aabb}
 use Rattle.grid.specs.declared.Grid.{Grid}
-use Rattle.lists.specs.Filling.{Filling, fill_end, fill_length, fill_many, fill_start}
+use Rattle.lists.specs.Filling.{Filling, fill_end, fill_many}
 use Rattle.lists.specs.Rows.{rows}
 use mathlib.Core.List.{List, []}
 use Prim.Native.Nat.{ℕ, zero, suc, ◌+◌, ◌-◌, ◌*◌, ◌<◌, ◌≤◌}
@@ -34,47 +34,18 @@ module _ (boxes : List Float) (g : Grid) (old whole : List ℕ) where
   no_rows zero i z = refl
   no_rows (suc n) i z = absurd (omega arith)
 
-pub loop-i-init : goal.loop-i-init
-loop-i-init c =
-    let a = c.args in
-    let e : a.n - 0 ≡ a.n = omega arith in
-    (omega arith, rw e (fill_start ℕ a.ranges.now _))
-
-pub box_at-requires : goal.box_at-requires
-box_at-requires c = omega arith
-
-pub write_range-requires : goal.write_range-requires
-write_range-requires c =
-    let l = c.loop-i in
-    let n = fill_length ℕ c.args.ranges.now l.ranges (4 * l.i) _ _ l.invariant.1 (omega arith) in
-    omega arith
-
-pub overflow_add-i : goal.overflow_add-i
-overflow_add-i c = omega arith
-
-pub loop-i-smaller : goal.loop-i-smaller
-loop-i-smaller c = omega arith
-
 pub loop-i-preserved : goal.loop-i-preserved
 loop-i-preserved c =
     let l = c.loop-i in
     let a = c.args in
-    let less : a.n - (l.i + 1) ≡ a.n - l.i - 1 = omega arith in (
-      omega arith,
-      rw less
-          (next_row a.boxes.now a.g a.ranges.now _ (a.n - l.i) l.i l.ranges _ _ (omega arith)
-          c.box_at.ensures c.write_range.ensures (omega arith) l.invariant.1),
-    )
-
-pub shape_of-ranges : goal.shape_of-ranges
-shape_of-ranges c =
-    let l = c.loop-i in
-    let a = c.args in
-    fill_length ℕ a.ranges.now l.ranges (4 * l.i) _ _ l.invariant.1 (omega arith)
+    let less : a.n - (l.i + 1) ≡ a.n - l.i - 1 = omega arith in
+    rw less
+    (next_row a.boxes.now a.g a.ranges.now _ (a.n - l.i) l.i l.ranges _ _ (omega arith) c.box_at.ensures c.write_range.ensures
+    (omega arith) l.invariant)
 
 pub returns : goal.returns
 returns c =
     let l = c.loop-i in
     let a = c.args in
-    fill_end ℕ a.ranges.now l.ranges (4 * l.i) _ _ l.invariant.1
+    fill_end ℕ a.ranges.now l.ranges (4 * l.i) _ _ l.invariant
     (no_rows a.boxes.now a.g a.ranges.now [] (a.n - l.i) l.i (omega arith))

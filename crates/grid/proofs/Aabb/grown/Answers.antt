@@ -1,6 +1,5 @@
 -- `Aabb::grown` takes the least and the greatest of each coordinate.
 use Rattle.grid.specs.Grid.{grown}
-use borrow.Author.Rules.{rules}
 use Rattle.grid.proofs.Aabb.grown.Goals as goal
 
 pub returns : goal.returns

@@ -1,6 +1,5 @@
 -- `Aabb::merge` takes the least and the greatest of each side.
 use Rattle.grid.specs.Grid.{merge}
-use borrow.Author.Rules.{rules}
 use Rattle.grid.proofs.Aabb.merge.Goals as goal
 
 pub returns : goal.returns

@@ -6,7 +6,6 @@ use Rattle.float.specs.Choose.{max_of}
 use Rattle.grid.specs.declared.Aabb.{Aabb}
 use Rattle.grid.specs.declared.Grid.{Grid}
 use Rattle.grid.specs.Grid.{milli, of_whole, first_cell, side, grid_of}
-use borrow.Author.Rules.{rules}
 use Rattle.grid.proofs.Grid.build.Goals as goal
 
 module _ (extent : Aabb) (items : ℕ) where

@@ -2,7 +2,6 @@
 use mathlib.Core.Path.{sym}
 use native.Mathlib.Omega.{arith}
 use Rattle.grid.proofs.Rings.{left_inside, right_inside, bottom_inside, top_decides}
-use borrow.Author.Rules.{rules}
 use Rattle.grid.proofs.Grid.outgrown.Goals as goal
 
 pub returns-then-r-cx : goal.returns-then-r-cx

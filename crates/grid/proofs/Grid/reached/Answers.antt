@@ -1,6 +1,5 @@
 -- `Grid::reached` compares with the square of the distance that `ring_floor` says.
 use Rattle.grid.specs.Ring.{reached_at}
-use borrow.Author.Rules.{rules}
 use Rattle.grid.proofs.Grid.reached.Goals as goal
 
 pub returns : goal.returns
