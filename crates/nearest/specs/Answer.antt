@@ -1,5 +1,5 @@
 -- The whole answer, from the row and the projection that are found: the row is one of the n, and has the lane's number.
-use Rattle.std.specs.Prelude.{Bool, false, true, List, refl, ◌≡◌, ℕ, ◌*◌, ◌<◌, Float, get_or}
+use Rattle.std.specs.Prelude.{Bool, false, true, List, Option, None, Some, refl, ◌≡◌, ℕ, ◌*◌, ◌<◌, Float, get_or}
 use Rattle.std.proofs.Common.{true≢false, ap, ◌∙◌}
 use Rattle.std.proofs.Math.Path.{sym}
 use Rattle.coords.specs.Coords.{finite_point}
@@ -10,23 +10,22 @@ use Rattle.network.specs.Lanes.{Lane, drives_table}
 use Rattle.network.specs.Nearest.{Best, found, nearest_lane, none}
 use Rattle.network.specs.Tables.{lane_at, lanes_from, told}
 use Rattle.network.specs.declared.Nearest.{Nearest}
-use Rattle.network.specs.declared.Nearest.TheVariants.{Found, None}
 use Rattle.plan_format.specs.Records.{lane_id}
 use Rattle.nearest.specs.Nearest.{answer_of, nearest_among, refusal}
 use Rattle.nearest.specs.declared.NearestAnswer.{NearestAnswer}
 
 -- the parts of what is found
-abbrev is_found : Nearest → Bool
+abbrev is_found : Option Nearest → Bool
 is_found None = false
-is_found (Found d i row q) = true
+is_found (Some b) = true
 
-abbrev row_in : Nearest → ℕ
+abbrev row_in : Option Nearest → ℕ
 row_in None = 0
-row_in (Found d i row q) = row
+row_in (Some b) = b.row
 
-abbrev projection_in : Projection → Nearest → Projection
+abbrev projection_in : Projection → Option Nearest → Projection
 projection_in q None = q
-projection_in q (Found d i row r) = r
+projection_in q (Some b) = b.projection
 
 -- the answer for a finite point
 pub among : (ls : List Lane) (p : Point) → finite_point p ≡ true → nearest_among ls p ≡ answer_of (nearest_lane drives_table ls p)
@@ -46,10 +45,10 @@ module _ (lanes : List ℕ) (points : List Float) (n : ℕ) (p : Point) where
   stands : Stands best
   stands = found_stands lanes points n drives_table p
 
-  pub row_below : (d : Float) (i row : ℕ) (q : Projection) → Found d i row q ≡ told best → row < n
-  row_below d i row q is = go best stands is
+  pub row_below : (b : Nearest) → Some b ≡ told best → b.row < n
+  row_below r is = go best stands is
     where
-      go : (b : Best) → Stands b → Found d i row q ≡ told b → row < n
+      go : (b : Best) → Stands b → Some r ≡ told b → r.row < n
       go none o h = absurd (true≢false (ap is_found h))
       go (found d' i' l q') o h = rw (ap row_in h) o.below
 
@@ -65,14 +64,14 @@ module _ (lanes : List ℕ) (points : List Float) (n : ℕ) (p : Point) where
     unfolding lane_at
     number_in l o = sym (ap (λ (m : Lane). m.number) o.is)
 
-    pub one_found : (d : Float) (i row : ℕ) (q : Projection) → Found d i row q ≡ told best
-        → ◌≡◌ {A = NearestAnswer} (record { number = 0; lane = lane_id (get_or lanes (6 * row) 0); projection = q }) (nearest_among ls p)
-    one_found d i row q is = go best stands is ∙ sym (among ls p e)
+    pub one_found : (r : Nearest) → Some r ≡ told best
+        → ◌≡◌ {A = NearestAnswer} (record { number = 0; lane = lane_id (get_or lanes (6 * r.row) 0); projection = r.projection }) (nearest_among ls p)
+    one_found r is = go best stands is ∙ sym (among ls p e)
       where
-        go : (b : Best) → Stands b → Found d i row q ≡ told b
-            → ◌≡◌ {A = NearestAnswer} (record { number = 0; lane = lane_id (get_or lanes (6 * row) 0); projection = q }) (answer_of b)
+        go : (b : Best) → Stands b → Some r ≡ told b
+            → ◌≡◌ {A = NearestAnswer} (record { number = 0; lane = lane_id (get_or lanes (6 * r.row) 0); projection = r.projection }) (answer_of b)
         go none o h = absurd (true≢false (ap is_found h))
-        go (found d' i' l q') o h = rw (ap row_in h, ap (projection_in q) h, number_in l o)
+        go (found d' i' l q') o h = rw (ap row_in h, ap (projection_in r.projection) h, number_in l o)
 
   pub not_finite : finite_point p ≡ false → refusal 9 ≡ nearest_among ls p
   unfolding nearest_among

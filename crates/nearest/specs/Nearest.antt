@@ -4,12 +4,11 @@ use Rattle.coords.specs.Coords.{finite_point, zero⁺}
 use Rattle.coords.specs.declared.Point.{Point}
 use Rattle.network.specs.Lanes.{Lane, driving, drives_table}
 use Rattle.network.specs.Nearest.{Best, found, nearest_lane, none}
-use Rattle.network.specs.Tables.{Arcs, Rows, lanes_from, told}
+use Rattle.network.specs.Tables.{Arcs, Rows, lanes_from}
 use Rattle.plan_format.specs.Plan.{Decoded, Plan, accepted, refused}
 use Rattle.plan_format.specs.Records.{lane_id}
 use Rattle.plan_format.specs.Records as records
 use Rattle.nearest.specs.declared.NearestAnswer.{NearestAnswer}
-use Rattle.nearest.specs.declared.NearestPair.{NearestPair}
 
 -- the lane of a record that stands in a row
 abbrev pub row_lane : ℕ → records.Lane → Lane
@@ -50,11 +49,6 @@ nearest_in p q = nearest_among (lanes_of p) q
 abbrev pub nearest_from : Decoded → Point → NearestAnswer
 nearest_from (refused n) q = refusal n
 nearest_from (accepted p) q = nearest_in p q
-
--- what is nearest to each of two points
-unfoldable pub both_of : List Lane → Point → Point → NearestPair
-unfolding nearest_lane
-both_of ls a b = record { from = told (nearest_lane drives_table ls a); to = told (nearest_lane drives_table ls b) }
 
 -- what the rows of n lanes must be to be asked: each with its points and their arc lengths, and no more spans than the index has room for
 pub record Searchable (lanes : List ℕ) (points cumulative : List Float) (n : ℕ) : Type 0 where

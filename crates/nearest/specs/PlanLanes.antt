@@ -7,7 +7,7 @@ use native.Mathlib.Omega.{arith}
 use Rattle.std.proofs.Math.ListN.{length}
 use Rattle.geometry.specs.Polyline.{cumulative_of}
 use Rattle.network.specs.Limits.{max_spans, point_total}
-use Rattle.network.specs.Lanes.{Lane, driving, drives_table}
+use Rattle.network.specs.Lanes.{driving, drives_table}
 use Rattle.network.specs.Tables.{Row, lane_at, lanes_from}
 use Rattle.plan.specs.Accepted.{Accepted}
 use Rattle.plan.specs.Rows.{lanes_size}

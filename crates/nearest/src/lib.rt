@@ -2,15 +2,16 @@
 // `specs/Nearest.antt` says what is answered.
 #![tactic(auto)]
 
-ghost use Rattle.std.specs.Prelude.{◌≡◌, ◌≤◌, length};
+ghost use Rattle.std.specs.Prelude.{◌≡◌, ℕ, map};
 ghost use Rattle.network.specs.Lanes.{drives_table};
 ghost use Rattle.network.specs.Nearest.{nearest_lane};
 ghost use Rattle.network.specs.Tables.{lanes_from, told};
-ghost use Rattle.nearest.specs.Nearest.{Searchable, both_of, nearest_among, refusal};
+ghost use Rattle.nearest.specs.Nearest.{Searchable, nearest_among, refusal};
+ghost use Rattle.coords.specs.declared.Point.{Point};
 
 use coords::Point;
 use geometry::Projection;
-use network::{LaneIndex, Nearest};
+use network::{Nearest, Spans};
 use plan_format::LaneId;
 
 // Document 01's number, 0 for an answer; the lane, and the place on it. All else is zero where refused.
@@ -22,106 +23,14 @@ pub struct NearestAnswer {
     pub projection: Projection,
 }
 
-// What is nearest to the first and to the last point of a route.
+// The lanes of a plan: a row for each, and the place and the arc length of each point.
 #[derive(Clone, Copy)]
-pub struct NearestPair {
-    pub from: Nearest,
-    pub to: Nearest,
-}
-
-// The nearest of n lanes to p, by an index that is built in the tables lent for it.
-fn nearest_with(
-    lanes: &[usize],
-    n: usize,
-    points: &[f32],
-    cumulative: &[f32],
-    p: Point,
-    spans: &mut [usize],
-    boxes: &mut [f32],
-    ranges: &mut [usize],
-) -> Nearest
-    requires { Searchable lanes.now points.now cumulative.now n
-        × (3456 ≤ length spans.old) × (4608 ≤ length boxes.old) × (4608 ≤ length ranges.old) }
-    ensures { result ≡ told (nearest_lane drives_table (lanes_from lanes.now points.now n 0) p) }
-{
-    let index = network::driving(lanes, n, points, spans, boxes, ranges);
-    network::nearest_lane(lanes, points, cumulative, spans, boxes, ranges, index, p)
-}
-
-// The nearest of n lanes to two points, by one index.
-fn both_with(
-    lanes: &[usize],
-    n: usize,
-    points: &[f32],
-    cumulative: &[f32],
-    from: Point,
-    to: Point,
-    spans: &mut [usize],
-    boxes: &mut [f32],
-    ranges: &mut [usize],
-) -> NearestPair
-    requires { Searchable lanes.now points.now cumulative.now n
-        × (3456 ≤ length spans.old) × (4608 ≤ length boxes.old) × (4608 ≤ length ranges.old) }
-    ensures { result ≡ both_of (lanes_from lanes.now points.now n 0) from to }
-{
-    let index = network::driving(lanes, n, points, spans, boxes, ranges);
-    let a = network::nearest_lane(lanes, points, cumulative, spans, boxes, ranges, index, from);
-    let b = network::nearest_lane(lanes, points, cumulative, spans, boxes, ranges, index, to);
-    NearestPair { from: a, to: b }
-}
-
-// The nearest of n lanes to p: its row and the projection onto it, or none.
-pub fn nearest_row(
-    lanes: &[usize],
-    n: usize,
-    points: &[f32],
-    cumulative: &[f32],
-    p: Point,
-) -> Nearest
-    requires { Searchable lanes.now points.now cumulative.now n }
-    ensures { result ≡ told (nearest_lane drives_table (lanes_from lanes.now points.now n 0) p) }
-{
-    let mut spans = [0usize; 3456];
-    let mut boxes = [0.0f32; 4608];
-    let mut ranges = [0usize; 4608];
-    nearest_with(
-        lanes,
-        n,
-        points,
-        cumulative,
-        p,
-        &mut spans,
-        &mut boxes,
-        &mut ranges,
-    )
-}
-
-// The same for two points.
-pub fn nearest_rows(
-    lanes: &[usize],
-    n: usize,
-    points: &[f32],
-    cumulative: &[f32],
-    from: Point,
-    to: Point,
-) -> NearestPair
-    requires { Searchable lanes.now points.now cumulative.now n }
-    ensures { result ≡ both_of (lanes_from lanes.now points.now n 0) from to }
-{
-    let mut spans = [0usize; 3456];
-    let mut boxes = [0.0f32; 4608];
-    let mut ranges = [0usize; 4608];
-    both_with(
-        lanes,
-        n,
-        points,
-        cumulative,
-        from,
-        to,
-        &mut spans,
-        &mut boxes,
-        &mut ranges,
-    )
+pub struct Lanes<'a> {
+    pub rows: &'a [usize],
+    pub count: usize,
+    pub points: &'a [f32],
+    pub cumulative: &'a [f32],
+    pub ghost searchable: { Searchable rows.now points.now cumulative.now count },
 }
 
 // A refused answer.
@@ -145,27 +54,54 @@ pub fn refuse(number: usize) -> NearestAnswer
     }
 }
 
-// The nearest lane of n to p.
-pub fn nearest_lane(
-    lanes: &[usize],
-    n: usize,
-    points: &[f32],
-    cumulative: &[f32],
-    p: Point,
-) -> NearestAnswer
-    requires { Searchable lanes.now points.now cumulative.now n }
-    ensures { result ≡ nearest_among (lanes_from lanes.now points.now n 0) p }
-{
-    if p.is_finite() {
-        let best = nearest_row(lanes, n, points, cumulative, p);
-        return match best {
-            Nearest::None => refuse(10),
-            Nearest::Found(_, _, row, projection) => NearestAnswer {
-                number: 0,
-                lane: LaneId(lanes[6 * row]),
-                projection,
-            },
+impl<'a> Lanes<'a> {
+    // The lane nearest to each of some points: its row and the projection onto it, or none. One index answers for all.
+    pub fn nearest_rows<const N: usize>(&self, ps: [Point; N]) -> [Option<Nearest>; N]
+        ensures { result ≡ map (λ (p : Point). told (nearest_lane drives_table
+            (lanes_from self.now.rows.now self.now.points.now self.now.count 0) p)) ps.entry }
+    {
+        let mut spans = [0usize; 3456];
+        let mut boxes = [0.0f32; 4608];
+        let mut ranges = [0usize; 4608];
+        let index = network::driving(
+            self.rows,
+            self.count,
+            self.points,
+            &mut spans,
+            &mut boxes,
+            &mut ranges,
+        );
+        let spans = Spans {
+            lanes: self.rows,
+            points: self.points,
+            cumulative: self.cumulative,
+            spans: &spans,
+            boxes: &boxes,
+            ranges: &ranges,
+            index,
         };
+        let mut found = [None; N];
+        for i in 0..N {
+            found[i] = spans.nearest_lane(ps[i]);
+        }
+        found
     }
-    refuse(9)
+
+    // The nearest lane to p.
+    pub fn nearest_lane(&self, p: Point) -> NearestAnswer
+        ensures { result ≡ nearest_among (lanes_from self.now.rows.now self.now.points.now self.now.count 0) p }
+    {
+        if !p.is_finite() {
+            return refuse(9);
+        }
+        let [best] = self.nearest_rows([p]);
+        match best {
+            None => refuse(10),
+            Some(b) => NearestAnswer {
+                number: 0,
+                lane: LaneId(self.rows[6 * b.row]),
+                projection: b.projection,
+            },
+        }
+    }
 }

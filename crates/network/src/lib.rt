@@ -13,7 +13,7 @@ ghost use Rattle.grid.specs.Grid.{extent_of, Sides};
 ghost use Rattle.grid.specs.Ring.{listed, row_cells, ring_of, Inside};
 ghost use Rattle.network.specs.Lanes.{around, driving, drives_table};
 ghost use Rattle.network.specs.Tables.{lane_at, lanes_from, Row, Rows, box_row, box_in, box_list, range_row, Added, Room, Built};
-ghost use Rattle.network.specs.Tables.{Line, Index, within, told};
+ghost use Rattle.network.specs.Tables.{span_list, Line, Index, within, told};
 ghost use Rattle.network.specs.Tables.{CeilingIs, WinsIs, EnoughIs, MeasuredIs};
 ghost use Rattle.network.specs.Nearest.{offered, offered_in, visit_cell, visit_ring, searched, grid_for, nearest_of};
 
@@ -312,6 +312,7 @@ pub struct Spans<'a> {
     pub ranges: &'a [usize],
     pub index: LaneIndex,
     pub ghost indexed: { Index lanes.now points.now cumulative.now spans.now boxes.now ranges.now index },
+    pub ghost gridded: { index.grid ≡ grid_for (span_list lanes.now points.now spans.now boxes.now index.count 0) },
 }
 
 impl<'a> Spans<'a> {
@@ -447,7 +448,6 @@ impl<'a> Spans<'a> {
 
     // The nearest of the spans to p, with the projection onto it; none for a point that is not finite.
     pub fn nearest_lane(&self, p: Point) -> Option<Nearest>
-        requires { self.now.index.grid ≡ grid_for (spans_of self.now) }
         ensures { result ≡ told (nearest_of (spans_of self.now) p) }
     {
         if self.index.count == 0 {

@@ -15,7 +15,7 @@ returns-then-is_finite c =
     let a = c.args in
     let s = a.self.now in
     found_nearest s.lanes.now s.points.now s.spans.now s.boxes.now a.p s.index.count s.index.grid _ (omega arith)
-    (sym c.is_finite.ensures ∙ c.if-is_finite.true) c.requires c.search.ensures
+    (sym c.is_finite.ensures ∙ c.if-is_finite.true) s.gridded c.search.ensures
 
 pub returns : goal.returns
 returns c =
