@@ -10,14 +10,12 @@ ghost use Rattle.calling.specs.Calling.{point};
 ghost use Rattle.lanes_nearest.specs.Nearest.{NearestFronts};
 
 use coords::Point;
-use nearest::NearestAnswer;
+use nearest::{Lanes, NearestAnswer};
 use tables::open;
 
 // The nearest lane from the front of each table, n lanes with m points.
 fn nearest_from(
-    x: f32,
-    y: f32,
-    z: f32,
+    p: Point,
     n: usize,
     m: usize,
     lanes: &[usize],
@@ -25,16 +23,15 @@ fn nearest_from(
     cumulative: &[f32],
 ) -> NearestAnswer
     requires { NearestFronts n m lanes.now points.now cumulative.now }
-    ensures { result ≡ nearest_among
-        (lanes_from (take (6 * n) lanes.now) (take (3 * m) points.now) n 0) (point x y z) }
+    ensures { result ≡ nearest_among (lanes_from (take (6 * n) lanes.now) (take (3 * m) points.now) n 0) p }
 {
-    let a = 6 * n;
-    let b = 3 * m;
-    let ls = &lanes[..a];
-    let ps = &points[..b];
-    let cs = &cumulative[..m];
-    let p = Point { x, y, z };
-    nearest::nearest_lane(ls, n, ps, cs, p)
+    let rows = Lanes {
+        rows: &lanes[..6 * n],
+        count: n,
+        points: &points[..3 * m],
+        cumulative: &cumulative[..m],
+    };
+    rows.nearest_lane(p)
 }
 
 // The driving lane nearest to a point, and the place on it: numbers 1 to 8, 9 where a coordinate is not finite, and 10 where no lane drives.
@@ -72,5 +69,6 @@ pub fn nearest_lane(
     }
     let n = read.counts.lanes;
     let m = read.counts.points;
-    nearest_from(x, y, z, n, m, lanes, points, cumulative)
+    let p = Point { x, y, z };
+    nearest_from(p, n, m, lanes, points, cumulative)
 }
