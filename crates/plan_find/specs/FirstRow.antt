@@ -1,5 +1,6 @@
 -- The first of n rows, from the i-th on, that a test takes; d where it takes none.
 use Rattle.std.specs.Prelude.{Bool, cond, false, true, List, refl, ◌≡◌, suc, zero, ℕ, ◌*◌, ◌+◌, ◌-◌, ◌<◌, ◌≤◌, eqb, get_or}
+use Rattle.std.specs.Prelude.{Option, None, Some, MatchOption, unwrap_or}
 use Rattle.std.proofs.Common.{ap, sym, ◌∙◌, arith}
 
 unfoldable pub first_row : (ℕ → Bool) → ℕ → ℕ → ℕ → ℕ
@@ -34,3 +35,19 @@ module _ (test : ℕ → Bool) (n i d : ℕ) where
 
   pub row_none : n ≤ i → first_row test (n - i) i d ≡ d
   row_none h = let z : n - i ≡ 0 = omega arith in ap (λ (k : ℕ). first_row test k i d) z ∙ first_zero test i d
+
+-- rows that the test does not take are passed over
+row_past : (test : ℕ → Bool) (n d i : ℕ) → i ≤ n → ((k : ℕ) → k < i → test k ≡ false) → first_row test (n - i) i d ≡ first_row test n 0 d
+row_past test n d zero h f = let z : n - 0 ≡ n = omega arith in rw z
+row_past test n d (suc i) h f =
+    let one : suc i ≡ i + 1 = omega arith in
+    rw one (row_later test n i d (omega arith) (f i (omega arith)) ∙ row_past test n d i (omega arith) (λ k l. f k (omega arith)))
+
+-- what a search finds, in words: a row that the test takes, and none before it; or the test takes none
+abbrev pub FirstOf : (ℕ → Bool) → ℕ → Option ℕ → Type 0
+FirstOf test n r =
+    MatchOption r ((k : ℕ) → k < n → test k ≡ false) (λ i. (i < n) × (test i ≡ true) × ((k : ℕ) → k < i → test k ≡ false))
+
+pub row_is : (test : ℕ → Bool) (n d : ℕ) (r : Option ℕ) → FirstOf test n r → unwrap_or r d ≡ first_row test n 0 d
+row_is test n d None h = sym (row_none test n n d (omega arith)) ∙ row_past test n d n (omega arith) h
+row_is test n d (Some i) h = sym (row_here test n i d h.0 h.1) ∙ row_past test n d i (omega arith) h.2

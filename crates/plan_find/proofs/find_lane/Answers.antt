@@ -1,31 +1,23 @@
--- The search among the rows left finds what the whole finds.
-use mathlib.Core.Path.{sym, ◌∙◌, ◌≡◌}
-use Prim.Native.Nat.{◌-◌}
-use native.Mathlib.Omega.{arith}
-use borrow.Author.Rules.{rules}
-use borrow.Author.Tests.{eq-eqb, ne_eqb}
-use Rattle.plan_find.specs.FirstRow.{first_row, is_lane, row_here, row_later, row_none}
+-- What the search says of each row that it read is what the definition asks of it.
+use Rattle.std.specs.Prelude.{Bool, false, true, Option, None, Some, MatchOption, ◌≡◌, ℕ, ◌<◌, ◌≤◌}
+use Rattle.std.proofs.Common.{arith, rules}
+use Rattle.std.proofs.lemmas.Iterator.{first_from_Range}
+use Rattle.plan_find.specs.FirstRow.{FirstOf, is_lane, row_is}
 use Rattle.plan_find.proofs.find_lane.Goals as goal
 
-pub loop-i-init : goal.loop-i-init
-loop-i-init c = let z : c.args.count - 0 ≡ c.args.count = omega arith in rw z
+first_of : (test : ℕ → Bool) (n : ℕ) (r : Option ℕ)
+    → MatchOption r ((k : ℕ) → 0 ≤ k → k < n → test k ≡ false)
+    (λ i. (0 ≤ i) × (i < n) × (test i ≡ true) × ((k : ℕ) → 0 ≤ k → k < i → test k ≡ false))
+    → FirstOf test n r
+first_of test n None h = λ k l. h k (omega arith) l
+first_of test n (Some i) h = (h.1, h.2, λ k l. h.3 k (omega arith) l)
 
-pub returns-then-lanes-i : goal.returns-then-lanes-i
-returns-then-lanes-i c =
-    let loop-test = c.loop-i-test in
-    let l = c.loop-i in
-    let a = c.args in
-    sym (row_here (is_lane a.lanes.now a.id.0) a.count l.i 256 loop-test.true (eq-eqb _ _ c.if-lanes-i.true)) ∙ l.invariant
+pub returns-clause-found : goal.returns-clause-found
+returns-clause-found c =
+    let test = is_lane c.args.lanes.now c.args.id.0 in
+    first_of test c.args.count c.find.result
+    (first_from_Range _ _ _ c.find.result (λ i. test i ≡ true) (λ i. test i ≡ false) c.find.ensures.ran (λ x q k. search rules)
+    (λ x q k. search rules))
 
-pub loop-i-preserved : goal.loop-i-preserved
-loop-i-preserved c =
-    let loop-test = c.loop-i-test in
-    let l = c.loop-i in
-    let a = c.args in
-    row_later (is_lane a.lanes.now a.id.0) a.count l.i 256 loop-test.true (ne_eqb _ _ c.if-lanes-i.false) ∙ l.invariant
-
-pub returns : goal.returns
-returns c =
-    let l = c.loop-i in
-    let a = c.args in
-    sym (row_none (is_lane a.lanes.now a.id.0) a.count l.i 256 c.loop-i-test.false) ∙ l.invariant
+pub returns-clause-row : goal.returns-clause-row
+returns-clause-row c = row_is (is_lane c.args.lanes.now c.args.id.0) c.args.count 256 c.find.result (returns-clause-found c)
