@@ -1,5 +1,6 @@
 -- Number 7, as the code reads it: the keys that must stand once, in the file.
 use Rattle.std.specs.Prelude.{Bool, cond, false, true, ◌||◌, ◌≡◌, ℕ, ◌*◌, ◌+◌, ◌<◌, ◌≤◌, eqb, ltb, drop, get_or, length, take}
+use Rattle.std.specs.List.{list_any}
 use mathlib.Core.List.{List, [], map, ◌∷◌}
 use Rattle.std.proofs.Math.Path.{ap, refl}
 use Rattle.std.proofs.Common.{sym, ◌∙◌, get_or-take, length-take-le, take_all, take_at, ltb-false, ltb-true}
@@ -7,7 +8,7 @@ use native.Mathlib.Omega.{arith}
 use Rattle.std.proofs.lemmas.List.{length-map}
 use Rattle.fields.specs.Fields.{u16_at}
 use Rattle.plan_format.specs.Laws.{Each, Room, drop_next, drop_none}
-use Rattle.plan_format.specs.Plan.{Starts, holds, number_of, place_key, place_lane, plan_of, repeats, section_key, twice}
+use Rattle.plan_format.specs.Plan.{Starts, any, holds, number_of, place_key, place_lane, plan_of, repeats, section_key, twice}
 use Rattle.plan_format.specs.Records.{lane_at, place_at, raised_at, section_at}
 use Rattle.plan_format.specs.Tables.{over}
 
@@ -61,6 +62,27 @@ pub repeats_later : (ks : List ℕ) (i : ℕ) → i < length ks → holds (get_o
     → repeats (drop (i + 1) ks) ≡ repeats (drop i ks)
 unfolding repeats
 repeats_later ks i h e = rw (drop_next ks i 0 h, e)
+
+-- std's word for a test of each element is the definition's
+pub any_is : {A : Type 0} (test : A → Bool) (xs : List A) → list_any test xs ≡ any test xs
+unfolding any
+any_is test [] = refl
+any_is test (x ∷ xs) = ap (λ (b : Bool). test x || b) (any_is test xs)
+
+-- the keys that are left after one more
+module _ (keys later : List ℕ) (x : ℕ) (e : keys ≡ x ∷ later) where
+  pub repeat_here : list_any (λ (y : ℕ). eqb y x) later ≡ true → repeats keys ≡ true
+  unfolding repeats
+  repeat_here h = rw (e, ← any_is (λ (y : ℕ). eqb y x) later, h)
+
+  pub repeat_later : list_any (λ (y : ℕ). eqb y x) later ≡ false → repeats later ≡ repeats keys
+  unfolding repeats
+  repeat_later h = rw (e, ← any_is (λ (y : ℕ). eqb y x) later, h)
+
+pub repeat_end : (keys : List ℕ) → length keys ≡ 0 → repeats keys ≡ false
+unfolding repeats
+repeat_end [] h = refl
+repeat_end (x ∷ xs) h = absurd (omega arith)
 
 -- the keys of the plan's records are what stands in the file
 module _ (s : List ℕ) where

@@ -1,6 +1,7 @@
 -- Number 8, as the code reads it.
-use Rattle.std.specs.Prelude.{Bool, false, not, true, List, [], map, ◌∷◌, refl, ◌≡◌, ℕ, ◌+◌, ◌<◌, ◌≤◌, eqb, drop, get_or, length, take}
-use Rattle.std.proofs.Common.{ap, ◌∙◌}
+use Rattle.std.specs.Prelude.{Bool, cond, false, not, true, Option, None, Some, MatchOption, IfSome, is_some, unwrap_or, suc, zero, List, [], map, ◌∷◌, refl, ◌≡◌, ℕ, ◌+◌, ◌<◌, ◌≤◌, eqb, drop, get_or, length, take}
+use Rattle.std.specs.List.{AllWithin, HoldsAt}
+use Rattle.std.proofs.Common.{ap, sym, ◌∙◌, true≢false}
 use native.Mathlib.Omega.{arith}
 use borrow.Author.Tests.{eq-eqb, ne_eqb}
 use Rattle.fields.specs.Fields.{u16_at}
@@ -49,6 +50,22 @@ module _ (k : ℕ) (keys : List ℕ) (i d : ℕ) where
   unfolding index_of
   index_end h = rw (drop_none keys i h)
 
+-- keys that are not k are passed over, so the first that is k is the one found
+module _ (k : ℕ) (keys : List ℕ) (d : ℕ) where
+  index_past : (i : ℕ) → i ≤ length keys → AllWithin (λ (y : ℕ). eqb y k ≡ false) keys 0 i → index_of k (drop i keys) i d ≡ index_of k keys 0 d
+  index_past zero h f = refl
+  index_past (suc i) h f =
+      let one : suc i ≡ i + 1 = omega arith in
+      rw one (index_later k keys i d (omega arith) (f i 0 (omega arith) (omega arith))
+      ∙ index_past i (omega arith) (λ m e a b. f m e a (omega arith)))
+
+  pub index_first : (r : Option ℕ)
+      → MatchOption r (AllWithin (λ (y : ℕ). eqb y k ≡ false) keys 0 (length keys))
+      (λ i. (i < length keys) × HoldsAt (λ (y : ℕ). eqb y k ≡ true) keys i × AllWithin (λ (y : ℕ). eqb y k ≡ false) keys 0 i)
+      → unwrap_or r d ≡ index_of k keys 0 d
+  index_first None h = sym (index_end k keys (length keys) d (omega arith)) ∙ index_past (length keys) (omega arith) h
+  index_first (Some i) h = sym (index_here k keys i d h.0 (h.1 0)) ∙ index_past i (omega (arith, h.0)) h.2
+
 -- number 8 of a plan is that of its records in the file
 pub from_is : (s : List ℕ) → Bytes s → (m ns ks : List ℕ) → ByNumber m ns 0
     → any (from_missing ns) (map (link_at s) ks) ≡ any (from_missing_by s m) ks
@@ -80,6 +97,14 @@ module _ (s : List ℕ) where
 pub row_is : (s ls m : List ℕ) (at i : ℕ) → ByNumber m (map (key_at s 0) ls) 0
     → (i ≡ get_or m (u16_at s (at + 6)) 0) × (u16_at s (at + 6) < 65536) → i ≡ index_of (u16_at s (at + 6)) (map (key_at s 0) ls) 0 256
 row_is s ls m at i S e = e.0 ∙ S.at (u16_at s (at + 6)) e.1
+
+-- a number has no row exactly where the list that m indexes lacks it
+pub missing_is : (m ns : List ℕ) → ByNumber m ns 0 → (r : Option ℕ) (n : ℕ) (b : Bool) → unwrap_or r 256 ≡ get_or m n 0
+    → IfSome r (λ i. i ≡ 256 → ⊥) → n < 65536 → is_some r ≡ not b → b ≡ eqb (index_of n ns 0 256) 256
+missing_is m ns S None n true e h l b = sym (eq-eqb _ _ (sym (e ∙ S.at n l)))
+missing_is m ns S None n false e h l b = absurd (true≢false (sym b))
+missing_is m ns S (Some i) n true e h l b = absurd (true≢false b)
+missing_is m ns S (Some i) n false e h l b = sym (ne_eqb _ _ (λ (y : index_of n ns 0 256 ≡ 256). h (e ∙ S.at n l ∙ y)))
 
 -- one place, in the words of the code
 module _ (s ls ss : List ℕ) (at i : ℕ) (ei : i ≡ index_of (u16_at s (at + 6)) (map (key_at s 0) ls) 0 256) where

@@ -1,21 +1,44 @@
 // The numbers that look at the whole file, after its records: a caller's side above 1, then 7, then 8.
-// The lists `lanes`, `links`, `sections`, `places` have where the records of each kind start.
 #![tactic(auto)]
 
-ghost use Rattle.std.specs.Prelude.{◌≡◌, [], map, ◌+◌, ◌*◌, ◌≤◌, ◌<◌, length, get_or, take, drop};
+ghost use Rattle.std.specs.Prelude.{◌≡◌, [], map, ℕ, ◌+◌, ◌*◌, ◌≤◌, ◌<◌, length, get_or, IfSome, OnOk, unwrap_or};
 ghost use Rattle.fields.specs.Fields.{u16_at};
 ghost use Rattle.plan_format.specs.Laws.{Each, Room};
-ghost use Rattle.plan_format.specs.Plan.{any, holds, repeats, index_of};
-ghost use Rattle.plan_format.specs.Records.{raised_at};
-ghost use Rattle.plan_format.specs.Tables.{over};
+ghost use Rattle.plan_format.specs.Plan.{any, from_missing, repeats, index_of};
+ghost use Rattle.plan_format.specs.Records.{link_at, raised_at};
+ghost use Rattle.plan_format.specs.Refusals.{found_number};
 ghost use Rattle.plan_scan.specs.Parts.{Parts};
 ghost use Rattle.plan_whole.specs.ByNumber.{ByNumber};
 ghost use Rattle.plan_whole.specs.Keys.{pair_at, key_at, twice_in, Listed};
-ghost use Rattle.plan_whole.specs.Missing.{from_missing_by, misplaced_in, Searching, Searched};
+ghost use Rattle.plan_whole.specs.Missing.{misplaced_in};
+ghost use Rattle.plan_whole.specs.Which.{which};
 ghost use Rattle.plan_whole.specs.Whole.{whole_in};
 
+use arrayvec::ArrayVec;
 use fields::{u16_at, u32_at};
-use plan_format::RoadId;
+use plan_format::{Refusal, RoadId};
+
+// What must stand once.
+#[derive(Clone, Copy)]
+pub enum Key {
+    // of a lane or a place its lane
+    Lane,
+    // of a section its road with index
+    Section,
+    // of a place its OpenDRIVE number within a section
+    PlaceInSection,
+}
+
+// Where the records of each kind start in a file whose records all pass.
+#[derive(Clone, Copy)]
+pub struct Records<'a> {
+    pub file: &'a [u8],
+    pub lanes: &'a [usize],
+    pub links: &'a [usize],
+    pub sections: &'a [usize],
+    pub places: &'a [usize],
+    pub ghost parts: { Parts file.now lanes.now links.now sections.now places.now },
+}
 
 // The key of a road's section. Sections are found by it alone, so a lane's number never finds one.
 fn section_key(road: RoadId, index: usize) -> usize
@@ -45,88 +68,53 @@ pub fn raised(file: &[u8], at: usize) -> usize
     n - 2147483648
 }
 
-// What must stand once: of a lane or a place its lane (0), of a section its road with index (1),
-// of a place its OpenDRIVE number within a section (2).
-fn key(file: &[u8], at: usize, which: usize) -> usize
-    requires { at + 16 ≤ length file.now }
-    ensures { result ≡ key_at file.now which at }
-{
-    if which == 0 {
-        return u16_at(file, at + 6);
+impl Key {
+    // The key of the record at `at`.
+    fn of(self, file: &[u8], at: usize) -> usize
+        requires { at + 16 ≤ length file.now }
+        ensures { result ≡ key_at file.now (which self) at }
+    {
+        match self {
+            Key::Lane => u16_at(file, at + 6),
+            Key::Section => pair(file, at + 6),
+            Key::PlaceInSection => pair(file, at + 8) * 4294967296 + raised(file, at + 12),
+        }
     }
-    if which == 1 {
-        return pair(file, at + 6);
-    }
-    pair(file, at + 8) * 4294967296 + raised(file, at + 12)
 }
 
 // The keys of the records of a part.
-pub fn collect_keys(file: &[u8], part: &[usize], which: usize, out: &mut [usize])
-    requires { Each (Room 16 file.now) part.now × (length part.now ≤ length out.old) }
-    ensures { out.new ≡ over (map (key_at file.now which) part.now) out.old }
+pub fn keys<const N: usize>(file: &[u8], part: &[usize], kind: Key) -> ArrayVec<usize, N>
+    requires { Listed file.now part.now N }
+    ensures { result.items ≡ map (key_at file.now (which kind)) part.now }
 {
-    let mut i = 0;
-    while i < part.len() {
-        out[i] = key(file, part[i], which);
-        i += 1;
+    let mut keys = ArrayVec::new();
+    for at in part {
+        keys.push(kind.of(file, *at));
     }
+    keys
 }
 
-// Whether x stands among the first n keys from `first` on.
-fn holds(keys: &[usize], n: usize, first: usize, x: usize) -> bool
-    requires { n ≤ length keys.now }
-    ensures { result ≡ holds x (drop first (take n keys.now)) }
+// Whether one of the keys stands twice.
+fn has_repeat(keys: &[usize]) -> bool
+    ensures { result ≡ repeats keys.now }
 {
-    let mut i = first;
-    while i < n {
-        if keys[i] == x {
+    let mut rest = keys;
+    while let Some((key, later)) = rest.split_first() {
+        if later.contains(key) {
             return true;
         }
-        i += 1;
-    }
-    false
-}
-
-// Whether one of the first n keys stands twice among them.
-fn has_repeat(keys: &[usize], n: usize) -> bool
-    requires { n ≤ length keys.now }
-    ensures { result ≡ repeats (take n keys.now) }
-{
-    let mut i = 0;
-    while i < n {
-        if holds(keys, n, i + 1, keys[i]) {
-            return true;
-        }
-        i += 1;
+        rest = later;
     }
     false
 }
 
 // Number 7 for one kind of key.
-fn repeats_key(file: &[u8], part: &[usize], which: usize) -> bool
+fn repeats_key(file: &[u8], part: &[usize], kind: Key) -> bool
     requires { Listed file.now part.now 256 }
-    ensures { result ≡ repeats (map (key_at file.now which) part.now) }
+    ensures { result ≡ repeats (map (key_at file.now (which kind)) part.now) }
 {
-    let mut keys = [0usize; 256];
-    collect_keys(file, part, which, &mut keys);
-    has_repeat(&keys, part.len())
-}
-
-// Number 7.
-fn any_twice(file: &[u8], lanes: &[usize], sections: &[usize], places: &[usize]) -> bool
-    requires { Listed file.now lanes.now 256 × Listed file.now sections.now 64 × Listed file.now places.now 256 }
-    ensures { result ≡ twice_in file.now lanes.now sections.now places.now }
-{
-    if repeats_key(file, lanes, 0) {
-        return true;
-    }
-    if repeats_key(file, sections, 1) {
-        return true;
-    }
-    if repeats_key(file, places, 0) {
-        return true;
-    }
-    repeats_key(file, places, 2)
+    let keys: ArrayVec<usize, 256> = keys(file, part, kind);
+    has_repeat(&keys)
 }
 
 // No number has a row.
@@ -134,11 +122,7 @@ fn clear(rows: &mut [u16])
     requires { length rows.old ≡ 65536 }
     ensures { ByNumber rows.new [] 0 }
 {
-    let mut i = 0;
-    while i < 65536 {
-        rows[i] = 256;
-        i += 1;
-    }
+    rows.fill(256);
 }
 
 // The row of the first record with each lane number, 256 for none. Backwards, so that the first one stays.
@@ -146,9 +130,7 @@ fn enter(file: &[u8], part: &[usize], rows: &mut [u16])
     requires { Listed file.now part.now 256 × ByNumber rows.old [] 0 }
     ensures { ByNumber rows.new (map (key_at file.now 0) part.now) 0 }
 {
-    let mut i = part.len();
-    while 0 < i {
-        i -= 1;
+    for i in (0..part.len()).rev() {
         let n = u16_at(file, part[i] + 6);
         rows[n] = i as u16;
     }
@@ -163,133 +145,91 @@ pub fn index_numbers(file: &[u8], part: &[usize], rows: &mut [u16])
     enter(file, part, rows);
 }
 
-// The row of the lane that a record names first; 256 for none.
-pub fn lane_row(file: &[u8], at: usize, rows: &[u16]) -> usize
+// The row of the lane that a record names first.
+pub fn lane_row(file: &[u8], at: usize, rows: &[u16]) -> Option<usize>
     requires { (at + 8 ≤ length file.now) × (length rows.now ≡ 65536) }
-    ensures { (result ≡ get_or rows.now (u16_at file.now (at + 6)) 0)
-        × (u16_at file.now (at + 6) < 65536) }
+    ensures row { unwrap_or result 256 ≡ get_or rows.now (u16_at file.now (at + 6)) 0 }
+    ensures found { IfSome result (λ i. ¬ (i ≡ 256)) }
+    ensures number { u16_at file.now (at + 6) < 65536 }
 {
-    let n = u16_at(file, at + 6);
-    rows[n] as usize
-}
-
-// Where k first stands among the first n keys; `none` where it does not.
-pub fn find(keys: &[usize], n: usize, k: usize, none: usize) -> usize
-    requires { n ≤ length keys.now }
-    ensures { result ≡ index_of k (take n keys.now) 0 none }
-{
-    let mut i = 0;
-    while i < n {
-        if keys[i] == k {
-            return i;
-        }
-        i += 1;
+    match rows[u16_at(file, at + 6)] {
+        256 => None,
+        row => Some(row as usize),
     }
-    none
 }
 
-// Whether a link's from-lane is missing.
-fn from_missing(file: &[u8], links: &[usize], rows: &[u16]) -> bool
-    requires { Each (Room 11 file.now) links.now × (length rows.now ≡ 65536) }
-    ensures { result ≡ any (from_missing_by file.now rows.now) links.now }
+// Where k first stands among the keys.
+pub fn find(keys: &[usize], k: usize) -> Option<usize>
+    ensures place { (d : ℕ) → unwrap_or result d ≡ index_of k keys.now 0 d }
+    ensures within { IfSome result (λ i. i < length keys.now) }
 {
-    let mut i = 0;
-    while i < links.len() {
-        if lane_row(file, links[i], rows) == 256 {
+    keys.iter().position(|key| *key == k)
+}
+
+impl<'a> Records<'a> {
+    // Number 7.
+    fn any_twice(&self) -> bool
+        ensures { result ≡ twice_in self.now.file.now self.now.lanes.now self.now.sections.now self.now.places.now }
+    {
+        repeats_key(self.file, self.lanes, Key::Lane)
+            || repeats_key(self.file, self.sections, Key::Section)
+            || repeats_key(self.file, self.places, Key::Lane)
+            || repeats_key(self.file, self.places, Key::PlaceInSection)
+    }
+
+    // Whether a link's from-lane is missing.
+    fn from_missing(&self, rows: &[u16]) -> bool
+        requires { ByNumber rows.now (map (key_at self.now.file.now 0) self.now.lanes.now) 0 }
+        ensures { result ≡ any (from_missing (map (key_at self.now.file.now 0) self.now.lanes.now)) (map (link_at self.now.file.now) self.now.links.now) }
+    {
+        self.links
+            .iter()
+            .any(|at| lane_row(self.file, *at, rows).is_none())
+    }
+
+    // Whether the lane or the section of the place at `at` is missing, or they differ in count. `keys` has the sections' keys.
+    fn is_misplaced(&self, at: usize, keys: &[usize], rows: &[u16]) -> bool
+        requires { (at + 16 ≤ length self.now.file.now)
+            × (keys.now ≡ map (key_at self.now.file.now 1) self.now.sections.now)
+            × ByNumber rows.now (map (key_at self.now.file.now 0) self.now.lanes.now) 0 }
+        ensures { result ≡ misplaced_in self.now.file.now self.now.lanes.now self.now.sections.now at }
+    {
+        let Some(lane) = lane_row(self.file, at, rows) else {
             return true;
-        }
-        i += 1;
-    }
-    false
-}
-
-// Whether a place's lane or section is missing, or they differ in count. `keys` has the sections' keys.
-fn misplaced_at(
-    file: &[u8],
-    at: usize,
-    lanes: &[usize],
-    sections: &[usize],
-    keys: &[usize],
-    rows: &[u16],
-) -> bool
-    requires { (at + 16 ≤ length file.now) × Searched file.now lanes.now sections.now keys.now rows.now }
-    ensures { result ≡ misplaced_in file.now lanes.now sections.now at }
-{
-    let i = lane_row(file, at, rows);
-    if i == 256 {
-        return true;
-    }
-    let j = find(keys, sections.len(), pair(file, at + 8), 64);
-    if j == 64 {
-        return true;
-    }
-    u16_at(file, lanes[i] + 11) != u16_at(file, sections[j] + 26)
-}
-
-fn any_misplaced_by(
-    file: &[u8],
-    places: &[usize],
-    lanes: &[usize],
-    sections: &[usize],
-    keys: &[usize],
-    rows: &[u16],
-) -> bool
-    requires { Each (Room 16 file.now) places.now × Searched file.now lanes.now sections.now keys.now rows.now }
-    ensures { result ≡ any (misplaced_in file.now lanes.now sections.now) places.now }
-{
-    let mut i = 0;
-    while i < places.len() {
-        if misplaced_at(file, places[i], lanes, sections, keys, rows) {
+        };
+        let Some(section) = find(keys, pair(self.file, at + 8)) else {
             return true;
+        };
+        u16_at(self.file, self.lanes[lane] + 11) != u16_at(self.file, self.sections[section] + 26)
+    }
+
+    // Number 8 for the places.
+    fn any_misplaced(&self, rows: &[u16]) -> bool
+        requires { ByNumber rows.now (map (key_at self.now.file.now 0) self.now.lanes.now) 0 }
+        ensures { result ≡ any (misplaced_in self.now.file.now self.now.lanes.now self.now.sections.now) self.now.places.now }
+    {
+        let keys: ArrayVec<usize, 64> = keys(self.file, self.sections, Key::Section);
+        self.places
+            .iter()
+            .any(|at| self.is_misplaced(*at, &keys, rows))
+    }
+
+    // What the whole file is refused for; for a file that is not, `rows` then has the row of each lane number.
+    pub fn whole(&self, side: usize, rows: &mut [u16]) -> Result<(), Refusal>
+        requires { length rows.old ≡ 65536 }
+        ensures number { found_number result ≡ whole_in self.now.file.now side self.now.lanes.now self.now.links.now self.now.sections.now self.now.places.now }
+        ensures rows { OnOk result (ByNumber rows.new (map (key_at self.now.file.now 0) self.now.lanes.now) 0) }
+    {
+        if 1 < side {
+            return Err(Refusal::OutOfRange);
         }
-        i += 1;
+        if self.any_twice() {
+            return Err(Refusal::StandsTwice);
+        }
+        index_numbers(self.file, self.lanes, rows);
+        if self.from_missing(rows) || self.any_misplaced(rows) {
+            return Err(Refusal::Missing);
+        }
+        Ok(())
     }
-    false
-}
-
-// Number 8 for the places.
-fn any_misplaced(
-    file: &[u8],
-    places: &[usize],
-    lanes: &[usize],
-    sections: &[usize],
-    rows: &[u16],
-) -> bool
-    requires { Each (Room 16 file.now) places.now × Searching file.now lanes.now sections.now rows.now }
-    ensures { result ≡ any (misplaced_in file.now lanes.now sections.now) places.now }
-{
-    let mut keys = [0usize; 64];
-    collect_keys(file, sections, 1, &mut keys);
-    any_misplaced_by(file, places, lanes, sections, &keys, rows)
-}
-
-// The number of the whole file, 0 for none; then `rows` has the row of each lane number.
-pub fn whole(
-    file: &[u8],
-    side: usize,
-    lanes: &[usize],
-    links: &[usize],
-    sections: &[usize],
-    places: &[usize],
-    rows: &mut [u16],
-) -> usize
-    requires { Parts file.now lanes.now links.now sections.now places.now × (length rows.old ≡ 65536) }
-    ensures { (result ≡ whole_in file.now side lanes.now links.now sections.now
-        places.now)
-        × (result ≡ 0 → ByNumber rows.new (map (key_at file.now 0) lanes.now) 0) }
-{
-    if 1 < side {
-        return 5;
-    }
-    if any_twice(file, lanes, sections, places) {
-        return 7;
-    }
-    index_numbers(file, lanes, rows);
-    if from_missing(file, links, rows) {
-        return 8;
-    }
-    if any_misplaced(file, places, lanes, sections, rows) {
-        return 8;
-    }
-    0
 }
