@@ -17,7 +17,7 @@ ghost use Rattle.plan_whole.specs.Keys.{Listed};
 ghost use Rattle.plan_whole.specs.Missing.{Searching, Searched};
 
 use fields::{f32_at, f64_at, u8_at, u16_at};
-use plan_whole::{collect_keys, find, lane_row, pair, raised};
+use plan_whole::{Key, find, keys, lane_row, pair, raised};
 
 // Writes a row from the entry `start` on.
 pub fn put_row(row: &[usize], out: &mut [usize], start: usize)
@@ -218,9 +218,9 @@ fn load_places_by(
     let mut k = 0;
     while i < places.len() {
         let at = places[i];
-        let l = lane_row(file, at, index);
-        let s = find(keys, sections.len(), pair(file, at + 8), 64);
-        let row = [l, s, raised(file, at + 12)];
+        let lane = lane_row(file, at, index).unwrap_or(256);
+        let section = find(&keys[..sections.len()], pair(file, at + 8)).unwrap_or(64);
+        let row = [lane, section, raised(file, at + 12)];
         put_row(&row, out, k);
         k += 3;
         i += 1;
@@ -243,7 +243,6 @@ pub fn load_places(
         (map (place_at file.now) places.now))
         out.old }
 {
-    let mut keys = [0usize; 64];
-    collect_keys(file, sections, 1, &mut keys);
+    let keys = keys::<64>(file, sections, Key::Section);
     load_places_by(file, lanes, sections, places, &keys, index, out);
 }

@@ -1,6 +1,7 @@
 -- Each turn writes the next row; lane and section are found as the definition finds them.
 use mathlib.Core.List.{List, [], map}
-use mathlib.Core.Path.{ap, refl, ◌∙◌, ◌≡◌}
+use mathlib.Core.Path.{ap, refl, sym, ◌∙◌, ◌≡◌}
+use Rattle.std.proofs.Common.{length-take-le}
 use Prim.Native.Nat.{ℕ, ◌*◌, ◌+◌, ◌-◌, ◌≤◌}
 use native.Mathlib.Omega.{arith}
 use lib.ListN.{drop, get_or, length}
@@ -20,8 +21,8 @@ use Rattle.plan_rows.proofs.load_places_by.Goals as goal
 pub loop-i-init : goal.loop-i-init
 loop-i-init c = (omega arith, refl, fill_start ℕ _ _, refl)
 
-pub lane_row-l-requires : goal.lane_row-l-requires
-lane_row-l-requires c =
+pub lane_row-requires : goal.lane_row-requires
+lane_row-requires c =
     let l = c.loop-i in
     let pre = c.requires in
     (omega (arith, pre.0.room l.i c.loop-i-test.true), pre.1.lists.rows.size)
@@ -40,11 +41,11 @@ pair-requires c =
     let pre = c.requires in
     omega (arith, pre.0.room l.i loop-test.true)
 
-pub find-s-requires : goal.find-s-requires
-find-s-requires c =
+pub slice_bounds-find-end : goal.slice_bounds-find-end
+slice_bounds-find-end c =
     let a = c.args in
     let pre = c.requires in
-    keys_room (key_at a.file.now 1) a.sections.now a.keys.now pre.1.keys_are
+    sym (length-take-le _ _ (keys_room (key_at a.file.now 1) a.sections.now a.keys.now pre.1.keys_are))
 
 pub overflow_add-at-in-loop-i : goal.overflow_add-at-in-loop-i
 overflow_add-at-in-loop-i c =
@@ -88,9 +89,9 @@ pub loop-i-preserved : goal.loop-i-preserved
 loop-i-preserved c =
     let put-row = c.put_row in
     let raised = c.raised in
-    let find = c.find-s in
+    let find = c.find in
     let pair = c.pair in
-    let lane_row = c.lane_row-l in
+    let lane_row = c.lane_row in
     let loop-test = c.loop-i-test in
     let l = c.loop-i in
     let a = c.args in
@@ -98,10 +99,11 @@ loop-i-preserved c =
     let s = a.file.now in
     let p = get_or a.places.now l.i 0 in
     let written = put-row.ensures in
-    let found = rw pair.ensures.0 at find.ensures in
+    let found = rw pair.ensures.0 at (find.ensures.place 64) in
     let row =
-    place_is s a.lanes.now a.sections.now a.index.now a.keys.now p lane_row.result find.result
-    raised.result pre.1 lane_row.ensures found raised.ensures.0 in
+    place_is s a.lanes.now a.sections.now a.index.now a.keys.now p c.unwrap_or-lane.result c.unwrap_or-section.result
+    raised.result pre.1 (c.unwrap_or-lane.ensures ∙ lane_row.ensures.row, lane_row.ensures.number) (c.unwrap_or-section.ensures ∙ found)
+    raised.ensures.0 in
     let room : l.k + 3 ≤ length a.out.now = omega (arith, pre.0.count, pre.2, l.invariant.1, loop-test.true) in
     let next =
     rows_next (place_row (plan s a.lanes.now a.sections.now)) (place_at s) a.places.now l.i a.out.now
