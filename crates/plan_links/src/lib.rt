@@ -32,7 +32,7 @@ fn chain_links(file: &[u8], links: &[usize], index: &[u16], first: &mut [usize],
     while 0 < j {
         j -= 1;
         let at = links[j];
-        let q = 3 * lane_row(file, at, index) + u8_at(file, at + 8);
+        let q = 3 * lane_row(file, at, index).unwrap_or(256) + u8_at(file, at + 8);
         next[j] = first[q];
         first[q] = j + 1;
     }
@@ -101,7 +101,7 @@ fn group_links(
         let a = write_links(file, links, index, first, next, 3 * i, out, k);
         let b = write_links(file, links, index, first, next, 3 * i + 1, out, k + a);
         let c = write_links(file, links, index, first, next, 3 * i + 2, out, k + a + b);
-        let place = lane_row(file, lanes[i], placed);
+        let place = lane_row(file, lanes[i], placed).unwrap_or(256);
         let row = [k, a, b, c, place];
         put_row(&row, fans, 5 * i);
         k = k + a + b + c;

@@ -1,6 +1,6 @@
 -- From the last link to the first: each is put in front of its chain.
 use mathlib.Core.List.{List, map}
-use mathlib.Core.Path.{ap, refl, ◌≡◌}
+use mathlib.Core.Path.{ap, refl, ◌∙◌, ◌≡◌}
 use Prim.Native.Nat.{ℕ, ◌*◌, ◌+◌, ◌-◌, ◌<◌, ◌≤◌}
 use native.Mathlib.Omega.{arith}
 use lib.ListN.{drop, get_or, length, length-set}
@@ -50,7 +50,7 @@ overflow_mul-q c =
     let p = get_or a.links.now (l.j - 1) 0 in
     omega (
       arith,
-      lane_below a.file.now a.index.now p c.lane_row.result 0 c.lane_row.ensures.0
+      lane_below a.file.now a.index.now p c.unwrap_or.result 0 (c.unwrap_or.ensures ∙ c.lane_row.ensures.row)
           (pre.2 (l.j - 1) (omega arith)),
     )
 
@@ -68,41 +68,41 @@ u8_at-requires c =
 
 pub overflow_add-q : goal.overflow_add-q
 overflow_add-q c =
-    let lane_row = c.lane_row in
+    let row = c.unwrap_or in
     let l = c.loop-j in
     let a = c.args in
     let pre = c.requires in
     let p = get_or a.links.now (l.j - 1) 0 in
     omega (
       arith,
-      key_below a.file.now a.index.now p lane_row.result c.u8_at.result lane_row.ensures.0
+      key_below a.file.now a.index.now p row.result c.u8_at.result (row.ensures ∙ c.lane_row.ensures.row)
           c.u8_at.ensures.0 (pre.2 (l.j - 1) (omega arith)),
     )
 
 pub offset_bounds-first-q : goal.offset_bounds-first-q
 offset_bounds-first-q c =
-    let lane_row = c.lane_row in
+    let row = c.unwrap_or in
     let l = c.loop-j in
     let a = c.args in
     let pre = c.requires in
     let p = get_or a.links.now (l.j - 1) 0 in
     omega (
       arith,
-      key_below a.file.now a.index.now p lane_row.result c.u8_at.result lane_row.ensures.0
+      key_below a.file.now a.index.now p row.result c.u8_at.result (row.ensures ∙ c.lane_row.ensures.row)
           c.u8_at.ensures.0 (pre.2 (l.j - 1) (omega arith)),
     )
 
 pub bounds-first-q : goal.bounds-first-q
 bounds-first-q c =
     let u8-at = c.u8_at in
-    let lane_row = c.lane_row in
+    let row = c.unwrap_or in
     let l = c.loop-j in
     let a = c.args in
     let pre = c.requires in
     let p = get_or a.links.now (l.j - 1) 0 in
     omega (
       arith,
-      key_below a.file.now a.index.now p lane_row.result u8-at.result lane_row.ensures.0 u8-at.ensures.0
+      key_below a.file.now a.index.now p row.result u8-at.result (row.ensures ∙ c.lane_row.ensures.row) u8-at.ensures.0
           (pre.2 (l.j - 1) (omega arith)),
       l.invariant.2,
     )
@@ -129,28 +129,28 @@ overflow_add-first c =
 pub offset_bounds-first-q-in-loop-j : goal.offset_bounds-first-q-in-loop-j
 offset_bounds-first-q-in-loop-j c =
     let u8-at = c.u8_at in
-    let lane_row = c.lane_row in
+    let row = c.unwrap_or in
     let l = c.loop-j in
     let a = c.args in
     let pre = c.requires in
     let p = get_or a.links.now (l.j - 1) 0 in
     omega (
       arith,
-      key_below a.file.now a.index.now p lane_row.result u8-at.result lane_row.ensures.0 u8-at.ensures.0
+      key_below a.file.now a.index.now p row.result u8-at.result (row.ensures ∙ c.lane_row.ensures.row) u8-at.ensures.0
           (pre.2 (l.j - 1) (omega arith)),
     )
 
 pub bounds-first-q-in-loop-j : goal.bounds-first-q-in-loop-j
 bounds-first-q-in-loop-j c =
     let u8-at = c.u8_at in
-    let lane_row = c.lane_row in
+    let row = c.unwrap_or in
     let l = c.loop-j in
     let a = c.args in
     let pre = c.requires in
     let p = get_or a.links.now (l.j - 1) 0 in
     omega (
       arith,
-      key_below a.file.now a.index.now p lane_row.result u8-at.result lane_row.ensures.0 u8-at.ensures.0
+      key_below a.file.now a.index.now p row.result u8-at.result (row.ensures ∙ c.lane_row.ensures.row) u8-at.ensures.0
           (pre.2 (l.j - 1) (omega arith)),
       l.invariant.2,
     )
@@ -163,16 +163,16 @@ loop-j-smaller c =
 pub loop-j-preserved : goal.loop-j-preserved
 loop-j-preserved c =
     let role = c.u8_at in
-    let row = c.lane_row in
+    let row = c.unwrap_or in
     let loop-test = c.loop-j-test in
     let l = c.loop-j in
     let a = c.args in
     let pre = c.requires in
     let p = get_or a.links.now (l.j - 1) 0 in
     let below =
-    key_below a.file.now a.index.now p row.result role.result row.ensures.0 role.ensures.0
+    key_below a.file.now a.index.now p row.result role.result (row.ensures ∙ c.lane_row.ensures.row) role.ensures.0
     (pre.2 (l.j - 1) (omega arith)) in
-    let key = key_is a.file.now a.index.now p row.result role.result row.ensures.0 role.ensures.0 in
+    let key = key_is a.file.now a.index.now p row.result role.result (row.ensures ∙ c.lane_row.ensures.row) role.ensures.0 in
     let next =
     chains_next a.file.now a.index.now a.links.now l.first l.next l.j (3 * row.result + role.result)
     l.invariant.1 loop-test.true l.invariant.0 (omega (arith, pre.1, l.invariant.3)) l.invariant.2 key below in (

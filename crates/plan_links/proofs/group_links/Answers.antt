@@ -136,8 +136,8 @@ bounds-lanes-i c =
     let loop-test = c.loop-i-test in
     omega (arith, loop-test.true)
 
-pub lane_row-place-requires : goal.lane_row-place-requires
-lane_row-place-requires c =
+pub lane_row-requires : goal.lane_row-requires
+lane_row-requires c =
     let loop-test = c.loop-i-test in
     let l = c.loop-i in
     let pre = c.requires in
@@ -206,7 +206,7 @@ loop-i-smaller c =
 pub loop-i-preserved : goal.loop-i-preserved
 loop-i-preserved c =
     let put-row = c.put_row in
-    let lane_row = c.lane_row-place in
+    let place = c.unwrap_or-place in
     let w₃ = c.write_links-c in
     let w₂ = c.write_links-b in
     let w₁ = c.write_links-a in
@@ -227,7 +227,7 @@ loop-i-preserved c =
     let fans =
     fans_next s m links a.placed.now a.lanes.now a.fans.now l.fans l.i l.k l.invariant.3
     loop-test.true (omega (arith, loop-test.true, pre.0.count, pre.4)) w₁.result w₂.result w₃.result
-    lane_row.result _ w₁.ensures.0 w₂.ensures.0 w₃.ensures.0 lane_row.ensures.0 put-row.ensures in
+    place.result _ w₁.ensures.0 w₂.ensures.0 w₃.ensures.0 (place.ensures ∙ c.lane_row.ensures.row) put-row.ensures in
     let size =
     three_length s m links (3 * l.i) (3 * l.i + 1) (3 * l.i + 2) (2 * l.k) (2 * (l.k + w₁.result))
     (2 * (l.k + w₁.result + w₂.result)) _ _ _ _ w₁.ensures.1 w₂.ensures.1 w₃.ensures.1 in (
@@ -237,7 +237,7 @@ loop-i-preserved c =
       fans,
       size ∙ l.invariant.4,
       ap length put-row.ensures ∙ length-sets l.fans (5 * l.i)
-          (l.k ∷ w₁.result ∷ w₂.result ∷ w₃.result ∷ lane_row.result ∷ []) ∙ l.invariant.5,
+          (l.k ∷ w₁.result ∷ w₂.result ∷ w₃.result ∷ place.result ∷ []) ∙ l.invariant.5,
     )
 
 pub shape_of-out : goal.shape_of-out
