@@ -11,6 +11,10 @@ use Rattle.plan_format.specs.Reading.{plan_counts, read_of, sum}
 use Rattle.plan_format.specs.Records.{lane_at, link_at, place_at, section_at}
 use Rattle.plan_format.specs.declared.Counts.{Counts}
 use Rattle.plan_format.specs.declared.Read.{Read}
+use Rattle.plan_format.specs.Refusals.{number_of}
+use Rattle.plan_format.specs.declared.Refusal.{Refusal}
+use Rattle.plan_format.specs.declared.Refusal.TheVariants.{ShortTable, LongFile, CutRecord, WrongLength, OutOfRange, OverLimit, StandsTwice, Missing}
+use Rattle.plan_format.specs.declared.Refusal.TheVariants.{NotFinite, NoLaneDrives, NoChain, OffTheLanes, InfiniteDistance, ShortList, NoLaneBeside}
 use Rattle.plan_scan.specs.Limits.{Limited}
 use Rattle.plan_scan.specs.Parts.{Parts, parts_of}
 use Rattle.plan_scan.specs.Scan.{Kept, Scanned, Sound, total}
@@ -124,6 +128,24 @@ stopped_by : (side : ℕ) (s : List ℕ) (w : Walked) (r : Read) (h : List ℕ) 
 unfolding decode settled
 stopped_by side s (stopped v) r h e z T l = rw (le-ltb 65536 (length s) l, e) T.0
 stopped_by side s (ended a) r h e z T l = absurd (z (ap (λ (x : Read). x.number) T.0))
+
+-- each refusal has a number
+pub refusal_counts : (e : Refusal) → number_of e ≡ 0 → ⊥
+refusal_counts ShortTable h = absurd (omega arith)
+refusal_counts LongFile h = absurd (omega arith)
+refusal_counts CutRecord h = absurd (omega arith)
+refusal_counts WrongLength h = absurd (omega arith)
+refusal_counts OutOfRange h = absurd (omega arith)
+refusal_counts OverLimit h = absurd (omega arith)
+refusal_counts StandsTwice h = absurd (omega arith)
+refusal_counts Missing h = absurd (omega arith)
+refusal_counts NotFinite h = absurd (omega arith)
+refusal_counts NoLaneDrives h = absurd (omega arith)
+refusal_counts NoChain h = absurd (omega arith)
+refusal_counts OffTheLanes h = absurd (omega arith)
+refusal_counts InfiniteDistance h = absurd (omega arith)
+refusal_counts ShortList h = absurd (omega arith)
+refusal_counts NoLaneBeside h = absurd (omega arith)
 
 -- NUMBER 2, and a refusal by the scan
 pub checked_large : (side : ℕ) (s : List ℕ) (r : Read) (h m : List ℕ) → 65536 < length s → r ≡ read_of (refused 2) → Checked side s r h m

@@ -1,39 +1,49 @@
 // The plan of a file in the lent tables: `check` reads only, `load` writes, `read_plan` does both for every input.
 #![tactic(auto)]
 
-ghost use Rattle.std.specs.Prelude.{◌≡◌, length, map};
+ghost use Rattle.std.specs.Prelude.{◌≡◌, length, map, OnOk};
 ghost use Rattle.plan_format.specs.Tables.{tables};
 ghost use Rattle.plan_format.specs.Reading.{Answers, opened, short};
+ghost use Rattle.plan_format.specs.Refusals.{found_number};
 ghost use Rattle.plan_whole.specs.Whole.{whole_in};
 ghost use Rattle.plan_whole.specs.ByNumber.{ByNumber};
 ghost use Rattle.plan_whole.specs.Keys.{key_at};
 ghost use Rattle.plan.specs.Checking.{Standing, Loadable, Checked, lanes_in, links_in, sections_in, places_in};
 ghost use Rattle.plan.specs.Loading.{Long, short_by, Loads};
 
-use plan_format::{Counts, Read, refused};
+use plan_format::{Counts, Read, Refusal, refused};
 use plan_links::load_links;
 use plan_rows::{
     load_bounds, load_ends, load_lanes, load_places, load_points, load_sections, load_stations,
 };
 use plan_scan::scan;
-use plan_whole::whole;
+use plan_whole::Records;
 
-// The number of the whole file, after a scan that found none and these counts.
-fn check_whole(file: &[u8], side: usize, starts: &[usize], c: Counts, index: &mut [u16]) -> usize
+// What the whole file is refused for, after a scan that found nothing and these counts.
+fn check_whole(
+    file: &[u8],
+    side: usize,
+    starts: &[usize],
+    c: Counts,
+    index: &mut [u16],
+) -> Result<(), Refusal>
     requires { Standing file.now c starts.now × (length index.old ≡ 65536) }
-    ensures { (result ≡ whole_in file.now side (lanes_in c starts.now) (links_in c starts.now)
-        (sections_in c starts.now) (places_in c starts.now))
-        × (result ≡ 0 → ByNumber index.new (map (key_at file.now 0) (lanes_in c starts.now)) 0) }
+    ensures number { found_number result ≡ whole_in file.now side (lanes_in c starts.now) (links_in c starts.now)
+        (sections_in c starts.now) (places_in c starts.now) }
+    ensures rows { OnOk result (ByNumber index.new (map (key_at file.now 0) (lanes_in c starts.now)) 0) }
 {
     let a = c.lanes;
     let b = 256 + c.links;
     let d = 2304 + c.sections;
     let e = 2368 + c.places;
-    let ls = &starts[..a];
-    let ks = &starts[256..b];
-    let ss = &starts[2304..d];
-    let ps = &starts[2368..e];
-    whole(file, side, ls, ks, ss, ps, index)
+    let records = Records {
+        file,
+        lanes: &starts[..a],
+        links: &starts[256..b],
+        sections: &starts[2304..d],
+        places: &starts[2368..e],
+    };
+    records.whole(side, index)
 }
 
 // The number and the counts of a file, numbers 2 to 8. `side` is the side that a caller gives, 0 where none does.
@@ -50,11 +60,10 @@ pub fn check(file: &[u8], side: usize, starts: &mut [usize], index: &mut [u16]) 
         return found;
     }
     let c = found.counts;
-    let v = check_whole(file, side, starts, c, index);
-    if v != 0 {
-        return refused(v);
+    match check_whole(file, side, starts, c, index) {
+        Ok(()) => found,
+        Err(refusal) => refused(refusal.number()),
     }
-    found
 }
 
 // The tables of an accepted file, from what `check` found.

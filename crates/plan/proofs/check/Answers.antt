@@ -1,7 +1,7 @@
 -- Number 2, the scan, then the whole file; each refusal is the definition's.
 use mathlib.Core.Path.{refl}
-use borrow.Author.Rules.{rules}
-use Rattle.plan.specs.Checking.{checked_accepted, checked_large, checked_refused, checked_stopped, standing}
+use Rattle.plan_format.specs.Refusals.{number_of}
+use Rattle.plan.specs.Checking.{checked_accepted, checked_large, checked_refused, checked_stopped, refusal_counts, standing}
 use Rattle.plan.proofs.check.Goals as goal
 
 pub returns-then-file-gt65536 : goal.returns-then-file-gt65536
@@ -16,33 +16,21 @@ returns-then-found-ne0 c =
     let a = c.args in
     checked_stopped a.side a.file.now scan.result _ _ _ c.if-found-ne0.true scan.ensures if1.false
 
-pub check_whole-v-requires : goal.check_whole-v-requires
-check_whole-v-requires c =
-    let if2 = c.if-found-ne0 in
-    let scan = c.scan-found in
-    let if1 = c.if-file-gt65536 in
-    let a = c.args in
-    let pre = c.requires in
-    (standing a.file.now scan.result _ if2.false scan.ensures if1.false, pre.1)
+pub check_whole-requires : goal.check_whole-requires
+check_whole-requires c = (standing c.args.file.now c.scan-found.result _ c.if-found-ne0.false c.scan-found.ensures c.if-file-gt65536.false, c.requires.1)
 
-pub returns-then-v-ne0 : goal.returns-then-v-ne0
-returns-then-v-ne0 c =
-    let w = c.check_whole-v in
-    let if2 = c.if-found-ne0 in
-    let scan = c.scan-found in
-    let if1 = c.if-file-gt65536 in
+pub returns-in-Ok : goal.returns-in-Ok
+returns-in-Ok c =
     let a = c.args in
-    let K = standing a.file.now scan.result _ if2.false scan.ensures if1.false in
-    checked_refused a.side a.file.now scan.result.counts _ K w.result w.ensures.0 c.if-v-ne0.true
-    c.refused-then-v-ne0.result _ c.refused-then-v-ne0.ensures
+    let scan = c.scan-found in
+    let K = standing a.file.now scan.result _ c.if-found-ne0.false scan.ensures c.if-file-gt65536.false in
+    checked_accepted a.side a.file.now scan.result.counts _ K 0 c.in-Ok.ensures.number refl _ c.in-Ok.ensures.rows scan.result c.if-found-ne0.false refl
 
-pub returns : goal.returns
-returns c =
-    let w = c.check_whole-v in
-    let if2 = c.if-found-ne0 in
-    let scan = c.scan-found in
-    let if1 = c.if-file-gt65536 in
+pub returns-in-Err : goal.returns-in-Err
+returns-in-Err c =
     let a = c.args in
-    let K = standing a.file.now scan.result _ if2.false scan.ensures if1.false in
-    checked_accepted a.side a.file.now scan.result.counts _ K w.result w.ensures.0 c.if-v-ne0.false _
-    (w.ensures.1 c.if-v-ne0.false) scan.result if2.false refl
+    let scan = c.scan-found in
+    let K = standing a.file.now scan.result _ c.if-found-ne0.false scan.ensures c.if-file-gt65536.false in
+    let e = c.in-Err.refusal in
+    checked_refused a.side a.file.now scan.result.counts _ K (number_of e) c.in-Err.ensures.number (refusal_counts e) c.refused-in-Err.result _
+    (rw c.number.ensures at c.refused-in-Err.ensures)

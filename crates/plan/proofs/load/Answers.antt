@@ -1,6 +1,5 @@
 -- Each table by its own function, from the starts of its records.
 use native.Mathlib.Omega.{arith}
-use borrow.Author.Rules.{rules}
 use Rattle.plan_format.specs.Tables.{tables}
 use Rattle.plan.specs.Checking.{counts_within, lanes_length, parts_in}
 use Rattle.plan.specs.Loading.{linkable, loaded_by, searching}

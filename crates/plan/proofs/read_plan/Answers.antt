@@ -1,6 +1,5 @@
 -- Number 1, then `check`; only an accepted file is loaded.
 use mathlib.Core.Path.{sym, ◌∙◌}
-use borrow.Author.Rules.{rules}
 use Rattle.plan_format.specs.Tables.{tables}
 use Rattle.plan.specs.Loading.{answers_accepted, answers_refused, answers_short, long_enough}
 use Rattle.plan.proofs.read_plan.Goals as goal
