@@ -1,9 +1,8 @@
 // The numbers that look at the whole file, after its records: a caller's side above 1, then 7, then 8.
 #![tactic(auto)]
 
-ghost use Rattle.std.specs.Prelude.{◌≡◌, [], map, ℕ, ◌+◌, ◌*◌, ◌≤◌, ◌<◌, length, get_or, IfSome, OnOk, unwrap_or};
+ghost use Rattle.std.specs.Prelude.{◌≡◌, ◌≢◌, map, ℕ, ◌+◌, ◌*◌, ◌≤◌, ◌<◌, length, get_or, IfSome, OnOk, unwrap_or};
 ghost use Rattle.fields.specs.Fields.{u16_at};
-ghost use Rattle.plan_format.specs.Laws.{Each, Room};
 ghost use Rattle.plan_format.specs.Plan.{any, from_missing, repeats, index_of};
 ghost use Rattle.plan_format.specs.Records.{link_at, raised_at};
 ghost use Rattle.plan_format.specs.Refusals.{found_number};
@@ -113,43 +112,26 @@ fn repeats_key(file: &[u8], part: &[usize], kind: Key) -> bool
     requires { Listed file.now part.now 256 }
     ensures { result ≡ repeats (map (key_at file.now (which kind)) part.now) }
 {
-    let keys: ArrayVec<usize, 256> = keys(file, part, kind);
-    has_repeat(&keys)
+    has_repeat(&keys::<256>(file, part, kind))
 }
 
-// No number has a row.
-fn clear(rows: &mut [u16])
-    requires { length rows.old ≡ 65536 }
-    ensures { ByNumber rows.new [] 0 }
-{
-    rows.fill(256);
-}
-
-// The row of the first record with each lane number, 256 for none. Backwards, so that the first one stays.
-fn enter(file: &[u8], part: &[usize], rows: &mut [u16])
-    requires { Listed file.now part.now 256 × ByNumber rows.old [] 0 }
+// The rows of lanes by their numbers, or of places by their lanes'; 256 for none. Backwards, so that the first with a number stays.
+pub fn index_numbers(file: &[u8], part: &[usize], rows: &mut [u16])
+    requires { Listed file.now part.now 256 × (length rows.old ≡ 65536) }
     ensures { ByNumber rows.new (map (key_at file.now 0) part.now) 0 }
 {
+    rows.fill(256);
     for i in (0..part.len()).rev() {
         let n = u16_at(file, part[i] + 6);
         rows[n] = i as u16;
     }
 }
 
-// The rows of lanes by their numbers, or of places by their lanes'.
-pub fn index_numbers(file: &[u8], part: &[usize], rows: &mut [u16])
-    requires { Listed file.now part.now 256 × (length rows.old ≡ 65536) }
-    ensures { ByNumber rows.new (map (key_at file.now 0) part.now) 0 }
-{
-    clear(rows);
-    enter(file, part, rows);
-}
-
 // The row of the lane that a record names first.
 pub fn lane_row(file: &[u8], at: usize, rows: &[u16]) -> Option<usize>
     requires { (at + 8 ≤ length file.now) × (length rows.now ≡ 65536) }
     ensures row { unwrap_or result 256 ≡ get_or rows.now (u16_at file.now (at + 6)) 0 }
-    ensures found { IfSome result (λ i. ¬ (i ≡ 256)) }
+    ensures found { IfSome result (λ i. i ≢ 256) }
     ensures number { u16_at file.now (at + 6) < 65536 }
 {
     match rows[u16_at(file, at + 6)] {
@@ -208,7 +190,7 @@ impl<'a> Records<'a> {
         requires { ByNumber rows.now (map (key_at self.now.file.now 0) self.now.lanes.now) 0 }
         ensures { result ≡ any (misplaced_in self.now.file.now self.now.lanes.now self.now.sections.now) self.now.places.now }
     {
-        let keys: ArrayVec<usize, 64> = keys(self.file, self.sections, Key::Section);
+        let keys = keys::<64>(self.file, self.sections, Key::Section);
         self.places
             .iter()
             .any(|at| self.is_misplaced(*at, &keys, rows))

@@ -1,6 +1,6 @@
 -- The first of the keys that is k, as the definition counts it.
 use Rattle.std.specs.Prelude.{false, true, ◌≡◌, eqb}
-use Rattle.std.proofs.Common.{rules, tests}
+use Rattle.std.proofs.Common.{rules}
 use Rattle.std.proofs.lemmas.Iterator.{IsFirst-from_position, YieldsList-from_slice}
 use Rattle.plan_whole.specs.Missing.{index_first}
 use Rattle.plan_whole.proofs.find.Goals as goal

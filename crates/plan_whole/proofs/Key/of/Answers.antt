@@ -1,5 +1,4 @@
 -- Each kind of key has its own case.
-use Rattle.std.proofs.Common.{rules}
 use Rattle.plan_whole.specs.Keys.{key_at}
 use Rattle.plan_whole.proofs.Key.of.Goals as goal
 

@@ -1,6 +1,6 @@
 -- A place is misplaced exactly when the definition says so.
-use Rattle.std.specs.Prelude.{◌≡◌, ◌≤◌, ◌+◌, length}
-use Rattle.std.proofs.Common.{rules, tests, arith, ◌∙◌}
+use Rattle.std.specs.Prelude.{◌≤◌, ◌+◌, length}
+use Rattle.std.proofs.Common.{rules, tests, ◌∙◌}
 use Rattle.std.proofs.lemmas.Iterator.{YieldsList-from_slice}
 use Rattle.std.proofs.lemmas.Iterator.Adapters.{serves_from_places}
 use Rattle.std.proofs.lemmas.Iterator.Search.{any_from_yields_List}

@@ -1,5 +1,5 @@
 -- The four tests stand in the definition's order.
-use Rattle.std.proofs.Common.{rules, arith}
+use Rattle.std.proofs.Common.{arith}
 use Rattle.plan_whole.specs.Keys.{twice_in}
 use Rattle.plan_whole.proofs.Records.any_twice.Goals as goal
 

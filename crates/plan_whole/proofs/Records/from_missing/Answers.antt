@@ -1,6 +1,6 @@
 -- A link lacks a lane exactly when the definition says so.
-use Rattle.std.specs.Prelude.{◌≡◌, ℕ, ◌≤◌, ◌+◌, length, map}
-use Rattle.std.proofs.Common.{rules, tests, arith, sym, ◌∙◌}
+use Rattle.std.specs.Prelude.{ℕ, ◌≤◌, ◌+◌, length, map}
+use Rattle.std.proofs.Common.{rules, tests, sym, ◌∙◌}
 use Rattle.std.proofs.lemmas.Iterator.{YieldsList-from_slice}
 use Rattle.std.proofs.lemmas.Iterator.Adapters.{serves_from_places}
 use Rattle.std.proofs.lemmas.Iterator.Search.{any_from_yields_List}

@@ -1,10 +1,10 @@
 -- The rows found are the definition's, so they lie in the lists.
 use Rattle.std.specs.Prelude.{◌≡◌, ◌+◌, ◌<◌, length, map}
-use Rattle.std.proofs.Common.{rules, arith, refl}
+use Rattle.std.proofs.Common.{arith, refl}
 use Rattle.std.proofs.lemmas.List.{length-map}
 use Rattle.plan_format.specs.Plan.{index_of}
 use Rattle.plan_whole.specs.Keys.{key_at, pair_at}
-use Rattle.plan_whole.specs.Missing.{lane_in, right_counts, row_is, section_in, wrong_lane, wrong_section}
+use Rattle.plan_whole.specs.Missing.{lane_in, right_counts, row_is, wrong_lane, wrong_section}
 use Rattle.plan_whole.proofs.Records.is_misplaced.Goals as goal
 
 pub returns-in_default : goal.returns-in_default

@@ -1,5 +1,5 @@
 -- The tests stand in the definition's order.
-use Rattle.std.proofs.Common.{rules, arith, sym, ◌∙◌}
+use Rattle.std.proofs.Common.{sym, ◌∙◌}
 use Rattle.plan_whole.specs.Whole.{whole_from, whole_good, whole_places, whole_side, whole_twice}
 use Rattle.plan_whole.proofs.Records.whole.Goals as goal
 use Rattle.plan_whole.proofs.Records.whole.Goals.{then-from_missing-via-then-from_missing, then-from_missing-via-else-from_missing+then-any_misplaced}
