@@ -1,5 +1,6 @@
 -- Number 8, as the code reads it.
-use Rattle.std.specs.Prelude.{Bool, false, not, true, Option, None, Some, MatchOption, IfSome, is_some, unwrap_or, suc, zero, List, [], map, ◌∷◌, refl, ◌≡◌, ℕ, ◌+◌, ◌<◌, ◌≤◌, eqb, drop, get_or, length, take}
+use Rattle.std.specs.Prelude.{Bool, false, not, true, List, [], map, ◌∷◌, refl, ◌≡◌, suc, zero, ℕ, ◌+◌, ◌<◌, ◌≤◌, eqb, drop, get_or, length, take}
+use Rattle.std.specs.Prelude.{Option, None, Some, MatchOption, IfSome, is_some, unwrap_or}
 use Rattle.std.specs.List.{AllWithin, HoldsAt}
 use Rattle.std.proofs.Common.{ap, sym, ◌∙◌, true≢false}
 use native.Mathlib.Omega.{arith}

@@ -162,7 +162,8 @@ impl<'a> Records<'a> {
     // Whether a link's from-lane is missing.
     fn from_missing(&self, rows: &[u16]) -> bool
         requires { ByNumber rows.now (map (key_at self.now.file.now 0) self.now.lanes.now) 0 }
-        ensures { result ≡ any (from_missing (map (key_at self.now.file.now 0) self.now.lanes.now)) (map (link_at self.now.file.now) self.now.links.now) }
+        ensures { result ≡ any (from_missing (map (key_at self.now.file.now 0) self.now.lanes.now))
+            (map (link_at self.now.file.now) self.now.links.now) }
     {
         self.links
             .iter()
@@ -199,7 +200,8 @@ impl<'a> Records<'a> {
     // What the whole file is refused for; for a file that is not, `rows` then has the row of each lane number.
     pub fn whole(&self, side: usize, rows: &mut [u16]) -> Result<(), Refusal>
         requires { length rows.old ≡ 65536 }
-        ensures number { found_number result ≡ whole_in self.now.file.now side self.now.lanes.now self.now.links.now self.now.sections.now self.now.places.now }
+        ensures number { found_number result ≡ whole_in self.now.file.now side self.now.lanes.now self.now.links.now
+            self.now.sections.now self.now.places.now }
         ensures rows { OnOk result (ByNumber rows.new (map (key_at self.now.file.now 0) self.now.lanes.now) 0) }
     {
         if 1 < side {

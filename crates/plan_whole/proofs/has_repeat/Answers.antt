@@ -6,12 +6,14 @@ use Rattle.plan_whole.proofs.has_repeat.Goals as goal
 pub returns-then-contains : goal.returns-then-contains
 returns-then-contains c =
     let l = c.loop-key in
-    sym (sym l.invariant ∙ repeat_here l.rest.now c.in-Some.later.now c.in-Some.key.now (search rules) (sym c.contains.ensures.value ∙ c.if-contains.true))
+    sym (sym l.invariant ∙ repeat_here l.rest.now c.in-Some.later.now c.in-Some.key.now (search rules)
+    (sym c.contains.ensures.value ∙ c.if-contains.true))
 
 pub loop-key-preserved : goal.loop-key-preserved
 loop-key-preserved c =
     let l = c.loop-key in
-    repeat_later l.rest.now c.in-Some.later.now c.in-Some.key.now (search rules) (sym c.contains.ensures.value ∙ c.if-contains.false) ∙ l.invariant
+    repeat_later l.rest.now c.in-Some.later.now c.in-Some.key.now (search rules)
+    (sym c.contains.ensures.value ∙ c.if-contains.false) ∙ l.invariant
 
 pub returns : goal.returns
 returns c =

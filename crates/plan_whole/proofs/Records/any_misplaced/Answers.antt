@@ -13,7 +13,9 @@ pub any-requires-clause-callable : goal.any-requires-clause-callable
 any-requires-clause-callable c =
     let r = c.args.self.now in
     serves_from_places (YieldsList-from_slice r.places.now (cc)) (λ x q k. search rules)
-    (λ x k l e. let n : x.now + 16 ≤ length r.file.now = rw (e ∙ get_d_any r.places.now k x.now 0 l) (r.parts.place k l) in search (rules, n))
+    (λ x k l e.
+    let n : x.now + 16 ≤ length r.file.now = rw (e ∙ get_d_any r.places.now k x.now 0 l) (r.parts.place k l) in
+    search (rules, n))
 
 pub returns : goal.returns
 returns c =

@@ -13,8 +13,11 @@ use Rattle.plan_whole.proofs.Records.from_missing.Goals as goal
 
 pub any-requires-clause-callable : goal.any-requires-clause-callable
 any-requires-clause-callable c =
-    serves_from_places (YieldsList-from_slice c.args.self.now.links.now (cc)) (λ x q k. search rules)
-    (λ x k l e. let n : x.now + 11 ≤ length c.args.self.now.file.now = rw (e ∙ get_d_any c.args.self.now.links.now k x.now 0 l) (c.args.self.now.parts.link k l) in search (rules, n))
+    let r = c.args.self.now in
+    serves_from_places (YieldsList-from_slice r.links.now (cc)) (λ x q k. search rules)
+    (λ x k l e.
+    let n : x.now + 11 ≤ length r.file.now = rw (e ∙ get_d_any r.links.now k x.now 0 l) (r.parts.link k l) in
+    search (rules, n))
 
 pub returns : goal.returns
 returns c =
