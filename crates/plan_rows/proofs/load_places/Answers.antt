@@ -12,7 +12,8 @@ load_places_by-requires c =
       c.requires.0,
       record {
         lists = c.requires.1;
-        keys_are = rw e (take_all (length a.sections.now) (map (key_at a.file.now 1) a.sections.now) (omega (arith, length-map a.sections.now (key_at a.file.now 1))));
+        keys_are = rw e (take_all (length a.sections.now) (map (key_at a.file.now 1) a.sections.now)
+          (omega (arith, length-map a.sections.now (key_at a.file.now 1))));
       },
       c.requires.2,
     )
