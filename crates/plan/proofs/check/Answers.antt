@@ -17,14 +17,17 @@ returns-then-found-ne0 c =
     checked_stopped a.side a.file.now scan.result _ _ _ c.if-found-ne0.true scan.ensures if1.false
 
 pub check_whole-requires : goal.check_whole-requires
-check_whole-requires c = (standing c.args.file.now c.scan-found.result _ c.if-found-ne0.false c.scan-found.ensures c.if-file-gt65536.false, c.requires.1)
+check_whole-requires c =
+    let scan = c.scan-found in
+    (standing c.args.file.now scan.result _ c.if-found-ne0.false scan.ensures c.if-file-gt65536.false, c.requires.1)
 
 pub returns-in-Ok : goal.returns-in-Ok
 returns-in-Ok c =
     let a = c.args in
     let scan = c.scan-found in
     let K = standing a.file.now scan.result _ c.if-found-ne0.false scan.ensures c.if-file-gt65536.false in
-    checked_accepted a.side a.file.now scan.result.counts _ K 0 c.in-Ok.ensures.number refl _ c.in-Ok.ensures.rows scan.result c.if-found-ne0.false refl
+    checked_accepted a.side a.file.now scan.result.counts _ K 0 c.in-Ok.ensures.number refl _ c.in-Ok.ensures.rows
+    scan.result c.if-found-ne0.false refl
 
 pub returns-in-Err : goal.returns-in-Err
 returns-in-Err c =
