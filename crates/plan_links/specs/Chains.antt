@@ -1,11 +1,13 @@
 -- Links as chains: for each lane and role the links in file order, each with the next one.
 use Rattle.std.specs.Prelude.{Bool, cond, false, true, refl, ◌≡◌, eqb, drop, replicate, set}
+use Rattle.std.specs.Prelude.{Option, Some, None}
 use mathlib.Core.List.{List, [], map, ◌∷◌}
 use Rattle.std.proofs.Math.Path.{ap}
 use Rattle.std.proofs.Common.{subst, sym, ◌∙◌, get_or-set_other, get_or-set_same, eqb-true, ne_eqb}
 use Prim.Native.Nat.{suc, zero, ℕ, ◌*◌, ◌+◌, ◌-◌, ◌<◌, ◌≤◌}
 use native.Mathlib.Omega.{arith}
-use Rattle.std.proofs.Math.ListN.{get_or, length}
+use Rattle.std.proofs.Math.ListN.{get_or, get_or-map, length}
+use Rattle.std.proofs.lemmas.List.{length-map, map-set}
 use Rattle.std.proofs.Math.Seq.{length-sets}
 use Rattle.std.proofs.lemmas.List.Edits.{sets}
 use Rattle.std.proofs.lemmas.Bool.{eqb-false}
@@ -19,6 +21,14 @@ link_key s m p = 3 * get_or m (u16_at s (p + 6)) 0 + u8_at s (p + 8)
 
 abbrev pub Keyed : List ℕ → List ℕ → ℕ → Type 0
 Keyed s m p = link_key s m p < 768
+
+-- a link of a chain as a number: 0 for none, else 1 + its place
+abbrev pub head : Option ℕ → ℕ
+head None = 0
+head (Some j) = j + 1
+
+abbrev pub heads : List (Option ℕ) → List ℕ
+heads os = map head os
 
 -- the places, from j on, at which q stands among the keys
 unfoldable pub picks : ℕ → List ℕ → ℕ → List ℕ
@@ -238,3 +248,45 @@ pub get_or_zeros : (n q : ℕ) → ◌≡◌ {A = ℕ} (get_or (replicate n 0) q
 get_or_zeros zero q = refl
 get_or_zeros (suc n) zero = refl
 get_or_zeros (suc n) (suc q) = get_or_zeros n q
+
+pub heads_none : (n q : ℕ) → get_or (heads (replicate n None)) q 0 ≡ 0
+heads_none zero q = refl
+heads_none (suc n) zero = refl
+heads_none (suc n) (suc q) = heads_none n q
+
+pub heads_at : (os : List (Option ℕ)) (i : ℕ) → get_or (heads os) i 0 ≡ head (get_or os i None)
+heads_at os i = get_or-map head os i None
+
+-- a link is put in front of its chain, as the code writes it
+pub chains_push : (s m links : List ℕ) (first nx : List (Option ℕ)) (j k : ℕ)
+    → Chains (length links) (heads first) (heads nx) (map (link_key s m) (drop j links)) j → 0 < j → j ≤ length links
+    → length links ≤ length nx → length first ≡ 768 → k ≡ link_key s m (get_or links (j - 1) 0) → k < 768
+    → Chains (length links) (heads (set first k (Some (j - 1)))) (heads (set nx (j - 1) (get_or first k None)))
+    (map (link_key s m) (drop (j - 1) links)) (j - 1)
+chains_push s m links first nx j k C p l w e q b =
+    let firsts : length (heads first) ≡ 768 = length-map first head ∙ e in
+    let nexts : length links ≤ length (heads nx) = omega (arith, length-map nx head) in
+    rw (map-set head first k (Some (j - 1)), map-set head nx (j - 1) (get_or first k None), ← heads_at first k)
+    (chains_next s m links (heads first) (heads nx) j k C p l nexts firsts q b)
+
+-- a chain followed by its links: there is one more, or none
+module _ (s m links : List ℕ) (nx : List (Option ℕ)) (start : ℕ) (all old out : List ℕ) (o : Option ℕ) (n : ℕ)
+    (P : Writing s m links (heads nx) start all old out (head o) n) where
+  pub link_in : (j : ℕ) → o ≡ Some j → (j < length links) × (n < length all)
+  link_in j e =
+      let z = ap head e in
+      let h = write_in s m links (heads nx) start all old out (head o) n P (omega arith) in
+      (omega arith, h.1)
+
+  pub link_next : (j : ℕ) → o ≡ Some j → (t : ℕ) (next : List ℕ) → t ≡ u16_at s (get_or links j 0 + 9)
+      → next ≡ sets out (2 * (start + n)) (t ∷ get_or m t 0 ∷ [])
+      → Writing s m links (heads nx) start all old next (head (get_or nx j None)) (n + 1)
+  link_next j e t next et en =
+      let z : head o - 1 ≡ j = (let y = ap head e in omega arith) in
+      let more =
+      write_next s m links (heads nx) start all old out (head o) n P (let y = ap head e in omega arith) t (get_or m t 0) next
+      (rw z et) refl en in
+      rw (z, heads_at nx j) at more
+
+  pub link_last : o ≡ None → (n ≡ length all) × (out ≡ sets old (2 * start) (rows (row_by s m) (map (start_at links) all)))
+  link_last e = write_end s m links (heads nx) start all old out (head o) n P (let z = ap head e in omega arith)

@@ -1,4 +1,5 @@
 -- The definitions that the contracts of plan_links cite, and their laws.
 pub mod Chains
 pub mod Groups
+pub mod Kept
 pub mod Linked

@@ -2,19 +2,17 @@
 // The lists `lanes`, `sections`, `places` have where the records of each kind start.
 #![tactic(auto)]
 
-ghost use Rattle.std.specs.Prelude.{◌≡◌, [], map, ◌+◌, ◌*◌, ◌≤◌, ◌<◌, length, replicate};
-ghost use Rattle.std.specs.Float.Ieee.{of_bits};
-ghost use Rattle.std.specs.Float.{binary32};
+ghost use Rattle.std.specs.Prelude.{◌≡◌, [], map, ◌+◌, ◌*◌, ◌^◌, ◌≤◌, ◌<◌, length, get_or, ℕ};
 ghost use Rattle.std.proofs.lemmas.List.Edits.{sets};
 ghost use Rattle.plan_format.specs.Laws.{Each, Room};
 ghost use Rattle.plan_format.specs.Plan.{plan_of, lane_count, section_count};
-ghost use Rattle.plan_format.specs.Records.{floats, doubles, lane_at, section_at, place_at};
+ghost use Rattle.plan_format.specs.Records.{lane_at, section_at, place_at};
 ghost use Rattle.plan_format.specs.Tables.{over, rows, rows_from, lane_row, point_row, end_row, section_row, bound_row, station_row};
 ghost use Rattle.plan_format.specs.Tables.{place_row};
 ghost use Rattle.plan_scan.specs.Parts.{Pointed, Ended, Stationed, listed};
 ghost use Rattle.plan_scan.specs.Scan.{total};
 ghost use Rattle.plan_whole.specs.Keys.{Listed};
-ghost use Rattle.plan_whole.specs.Missing.{Searching, Searched};
+ghost use Rattle.plan_whole.specs.Missing.{Searching};
 
 use fields::{f32_at, f64_at, u8_at, u16_at};
 use plan_whole::{Key, find, keys, lane_row, pair, raised};
@@ -24,41 +22,17 @@ pub fn put_row(row: &[usize], out: &mut [usize], start: usize)
     requires { start + length row.now ≤ length out.old }
     ensures { out.new ≡ sets out.old start row.now }
 {
-    let mut i = 0;
-    while i < row.len() {
-        out[start + i] = row[i];
-        i += 1;
-    }
+    out[start..start + row.len()].copy_from_slice(row);
 }
 
-// Copies the n floats from `first` on into the entries from `start` on.
-fn copy_floats(file: &[u8], first: usize, n: usize, out: &mut [f32], start: usize)
-    requires { (first + 4 * n ≤ length file.now) × (start + n ≤ length out.old) × (n < 1000000) }
-    ensures { out.new ≡ sets out.old start (floats file.now first n) }
+// Writes what `read` gives at `first` and at every `width` bytes after it.
+fn put_run<T: Copy, F: Fn(usize) -> T>(out: &mut [T], first: usize, width: usize, read: F)
+    requires fits { first + width * length out.old < 2 ^ 64 }
+    requires reads { (i : ℕ) → i < length out.old → F.pre read (first + width * i) }
+    ensures { (i : ℕ) (d : T) → i < length out.old → F.post read (first + width * i) (get_or out.new i d) }
 {
-    let mut at = first;
-    let mut k = start;
-    let mut left = n;
-    while 0 < left {
-        out[k] = f32_at(file, at);
-        at += 4;
-        k += 1;
-        left -= 1;
-    }
-}
-
-fn copy_doubles(file: &[u8], first: usize, n: usize, out: &mut [f64], start: usize)
-    requires { (first + 8 * n ≤ length file.now) × (start + n ≤ length out.old) × (n < 1000000) }
-    ensures { out.new ≡ sets out.old start (doubles file.now first n) }
-{
-    let mut at = first;
-    let mut k = start;
-    let mut left = n;
-    while 0 < left {
-        out[k] = f64_at(file, at);
-        at += 8;
-        k += 1;
-        left -= 1;
+    for (i, x) in out.iter_mut().enumerate() {
+        *x = read(first + width * i);
     }
 }
 
@@ -67,11 +41,8 @@ pub fn load_lanes(file: &[u8], lanes: &[usize], out: &mut [usize])
     ensures { out.new ≡ over (rows_from lane_row lane_count 0 (map (lane_at file.now) lanes.now))
         out.old }
 {
-    let mut i = 0;
-    let mut k = 0;
     let mut first = 0;
-    while i < lanes.len() {
-        let at = lanes[i];
+    for (i, &at) in lanes.iter().enumerate() {
         let n = u16_at(file, at + 11);
         let row = [
             u16_at(file, at + 6),
@@ -81,10 +52,8 @@ pub fn load_lanes(file: &[u8], lanes: &[usize], out: &mut [usize])
             first,
             n,
         ];
-        put_row(&row, out, k);
+        put_row(&row, out, 6 * i);
         first += n;
-        k += 6;
-        i += 1;
     }
 }
 
@@ -95,53 +64,35 @@ pub fn load_points(file: &[u8], lanes: &[usize], out: &mut [f32])
         × (12288 ≤ length out.old) }
     ensures { out.new ≡ over (rows point_row (map (lane_at file.now) lanes.now)) out.old }
 {
-    let mut i = 0;
     let mut k = 0;
-    while i < lanes.len() {
-        let at = lanes[i];
+    for &at in lanes {
         let n = 3 * u16_at(file, at + 11);
-        copy_floats(file, at + 13, n, out, k);
-        k += n;
-        i += 1;
-    }
-}
-
-fn put_zeros(out: &mut [f32], start: usize, n: usize)
-    requires { start + n ≤ length out.old }
-    ensures { out.new ≡ sets out.old start (replicate n (of_bits binary32 0)) }
-{
-    let mut k = start;
-    let mut left = n;
-    while 0 < left {
-        out[k] = 0.0;
-        k += 1;
-        left -= 1;
+        let end = k + n;
+        put_run(&mut out[k..end], at + 13, 4, |p| f32_at(file, p));
+        k = end;
     }
 }
 
 // The tangents of a lane, zeros where it has none.
-fn put_ends(file: &[u8], at: usize, out: &mut [f32], k: usize)
-    requires { (at + 16 ≤ length file.now) × Ended file.now at × (k + 6 ≤ length out.old) }
-    ensures { out.new ≡ sets out.old k (end_row (lane_at file.now at)) }
+fn put_ends(file: &[u8], at: usize, out: &mut [f32])
+    requires { (at + 16 ≤ length file.now) × Ended file.now at × (length out.old ≡ 6) }
+    ensures { out.new ≡ end_row (lane_at file.now at) }
 {
     if u8_at(file, at + 10) == 0 {
-        put_zeros(out, k, 6);
-        return;
+        out.fill(0.0);
+    } else {
+        let n = u16_at(file, at + 11);
+        put_run(out, at + 13 + 12 * n, 4, |p| f32_at(file, p));
     }
-    let n = u16_at(file, at + 11);
-    copy_floats(file, at + 13 + 12 * n, 6, out, k);
 }
 
 pub fn load_ends(file: &[u8], lanes: &[usize], out: &mut [f32])
     requires { Listed file.now lanes.now 256 × Each (Ended file.now) lanes.now × (1536 ≤ length out.old) }
     ensures { out.new ≡ over (rows end_row (map (lane_at file.now) lanes.now)) out.old }
 {
-    let mut i = 0;
-    let mut k = 0;
-    while i < lanes.len() {
-        put_ends(file, lanes[i], out, k);
-        k += 6;
-        i += 1;
+    for (i, &at) in lanes.iter().enumerate() {
+        let k = 6 * i;
+        put_ends(file, at, &mut out[k..k + 6]);
     }
 }
 
@@ -150,17 +101,12 @@ pub fn load_sections(file: &[u8], sections: &[usize], out: &mut [usize])
     ensures { out.new ≡ over
         (rows_from section_row section_count 0 (map (section_at file.now) sections.now)) out.old }
 {
-    let mut i = 0;
-    let mut k = 0;
     let mut first = 0;
-    while i < sections.len() {
-        let at = sections[i];
+    for (i, &at) in sections.iter().enumerate() {
         let n = u16_at(file, at + 26);
         let row = [u16_at(file, at + 6), u16_at(file, at + 8), first, n];
-        put_row(&row, out, k);
+        put_row(&row, out, 4 * i);
         first += n;
-        k += 4;
-        i += 1;
     }
 }
 
@@ -168,12 +114,9 @@ pub fn load_bounds(file: &[u8], sections: &[usize], out: &mut [f64])
     requires { Each (Room 28 file.now) sections.now × (length sections.now ≤ 64) × (128 ≤ length out.old) }
     ensures { out.new ≡ over (rows bound_row (map (section_at file.now) sections.now)) out.old }
 {
-    let mut i = 0;
-    let mut k = 0;
-    while i < sections.len() {
-        copy_doubles(file, sections[i] + 10, 2, out, k);
-        k += 2;
-        i += 1;
+    for (i, &at) in sections.iter().enumerate() {
+        let k = 2 * i;
+        put_run(&mut out[k..k + 2], at + 10, 8, |p| f64_at(file, p));
     }
 }
 
@@ -185,48 +128,16 @@ pub fn load_stations(file: &[u8], sections: &[usize], out: &mut [f64])
     ensures { out.new ≡ over (rows station_row (map (section_at file.now) sections.now))
         out.old }
 {
-    let mut i = 0;
     let mut k = 0;
-    while i < sections.len() {
-        let at = sections[i];
+    for &at in sections {
         let n = u16_at(file, at + 26);
-        copy_doubles(file, at + 28, n, out, k);
-        k += n;
-        i += 1;
+        let end = k + n;
+        put_run(&mut out[k..end], at + 28, 8, |p| f64_at(file, p));
+        k = end;
     }
 }
 
-// The rows of the places. `keys` has the sections' keys, `index` the row of each lane number.
-fn load_places_by(
-    file: &[u8],
-    lanes: &[usize],
-    sections: &[usize],
-    places: &[usize],
-    keys: &[usize],
-    index: &[u16],
-    out: &mut [usize],
-)
-    requires { Listed file.now places.now 256
-        × Searched file.now lanes.now sections.now keys.now index.now
-        × (768 ≤ length out.old) }
-    ensures { out.new ≡ over
-        (rows (place_row (plan_of file.now (listed lanes.now [] sections.now [])))
-        (map (place_at file.now) places.now))
-        out.old }
-{
-    let mut i = 0;
-    let mut k = 0;
-    while i < places.len() {
-        let at = places[i];
-        let lane = lane_row(file, at, index).unwrap_or(256);
-        let section = find(&keys[..sections.len()], pair(file, at + 8)).unwrap_or(64);
-        let row = [lane, section, raised(file, at + 12)];
-        put_row(&row, out, k);
-        k += 3;
-        i += 1;
-    }
-}
-
+// `index` has the row of each lane number.
 pub fn load_places(
     file: &[u8],
     lanes: &[usize],
@@ -244,5 +155,10 @@ pub fn load_places(
         out.old }
 {
     let keys = keys::<64>(file, sections, Key::Section);
-    load_places_by(file, lanes, sections, places, &keys, index, out);
+    for (i, &at) in places.iter().enumerate() {
+        let lane = lane_row(file, at, index).unwrap_or(256);
+        let section = find(&keys, pair(file, at + 8)).unwrap_or(64);
+        let row = [lane, section, raised(file, at + 12)];
+        put_row(&row, out, 3 * i);
+    }
 }

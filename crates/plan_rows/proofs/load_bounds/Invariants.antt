@@ -1,23 +1,10 @@
--- Each turn copies the start and the end of the next section, which stand side by side.
-use mathlib.Core.List.{map}
-use mathlib.Core.Path.{ap, refl, ◌∙◌, ◌≡◌}
-use Prim.Native.Nat.{◌*◌, ◌+◌, ◌-◌, ◌≤◌}
-use native.Mathlib.Omega.{arith}
-use lib.Ieee.{Float}
-use lib.ListN.{drop, get_or, length}
-use lib.Seq.{length-sets}
-use borrow.Author.Rules.{rules}
-use Rattle.lists.specs.Filling.{Filling, fill_end, fill_start}
+-- Each turn copies the bounds of the next section.
+use Rattle.std.proofs.Common.{Float, map, ◌*◌, drop}
+use Rattle.lists.specs.Filling.{Filling}
 use Rattle.plan_format.specs.Records.{section_at}
-use Rattle.plan_format.specs.Rows.{rows_end, rows_next}
 use Rattle.plan_format.specs.Tables.{bound_row, rows}
-use Rattle.plan_rows.specs.Runs.{bounds_are}
 use Rattle.plan_rows.proofs.load_bounds.Given as goal
 
 abbrev pub invariant-loop-i : goal.invariant-loop-i
 invariant-loop-i l =
-    (l.i ≤ length l.sections) × (l.k ≡ 2 * l.i) × Filling Float l.initial.out l.out l.k (rows bound_row (map (section_at l.file) (drop l.i l.sections)))
-    (rows bound_row (map (section_at l.file) l.sections)) × (length l.out ≡ length l.initial.out)
-
-abbrev pub decreases-loop-i : goal.decreases-loop-i
-decreases-loop-i l = length l.sections - l.i
+    Filling Float l.initial.out l.out (2 * l.i) (rows bound_row (map (section_at l.file) (drop l.i l.sections))) (rows bound_row (map (section_at l.file) l.sections))

@@ -1,24 +1,10 @@
 -- Each turn copies the points of the next lane.
-use mathlib.Core.List.{map}
-use mathlib.Core.Path.{ap, refl, ◌∙◌, ◌≡◌}
-use Prim.Native.Nat.{◌*◌, ◌+◌, ◌-◌, ◌≤◌}
-use native.Mathlib.Omega.{arith}
-use lib.Ieee.{Float}
-use lib.ListN.{drop, get_or, length}
-use lib.Seq.{length-sets}
-use borrow.Author.Rules.{rules}
-use Rattle.fields.specs.Fields.{f32_at, u16_at}
-use Rattle.lists.specs.Filling.{Filling, fill_end, fill_start}
+use Rattle.std.proofs.Common.{Float, map, drop}
+use Rattle.lists.specs.Filling.{Filling}
 use Rattle.plan_format.specs.Records.{lane_at}
-use Rattle.plan_format.specs.Rows.{rows_end, rows_next, rows_room}
 use Rattle.plan_format.specs.Tables.{point_row, rows}
-use Rattle.plan_rows.specs.Runs.{points_length, run_length}
 use Rattle.plan_rows.proofs.load_points.Given as goal
 
-abbrev pub invariant-loop-i : goal.invariant-loop-i
-invariant-loop-i l =
-    (l.i ≤ length l.lanes) × Filling Float l.initial.out l.out l.k (rows point_row (map (lane_at l.file) (drop l.i l.lanes)))
-    (rows point_row (map (lane_at l.file) l.lanes)) × (length l.out ≡ length l.initial.out)
-
-abbrev pub decreases-loop-i : goal.decreases-loop-i
-decreases-loop-i l = length l.lanes - l.i
+abbrev pub invariant-loop-at : goal.invariant-loop-at
+invariant-loop-at l =
+    Filling Float l.initial.out l.out l.k (rows point_row (map (lane_at l.file) (drop l.at-index l.lanes))) (rows point_row (map (lane_at l.file) l.lanes))

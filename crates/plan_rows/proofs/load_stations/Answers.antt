@@ -1,118 +1,38 @@
 -- Each turn copies the stations of the next section.
-use mathlib.Core.List.{map}
-use mathlib.Core.Path.{ap, refl, ◌∙◌, ◌≡◌}
-use Prim.Native.Nat.{◌+◌, ◌-◌, ◌≤◌}
-use native.Mathlib.Omega.{arith}
-use lib.Ieee.{Float}
-use lib.ListN.{drop, get_or, length}
-use lib.Seq.{length-sets}
-use borrow.Author.Rules.{rules}
+use Rattle.std.proofs.Common.{◌≡◌, ℕ, Float, ◌+◌, ◌<◌, arith, rules, get_or, length}
 use Rattle.fields.specs.Fields.{f64_at, u16_at}
-use Rattle.lists.specs.Filling.{Filling, fill_end, fill_start}
+use Rattle.lists.specs.Filling.{fill_end}
 use Rattle.plan_format.specs.Records.{section_at}
-use Rattle.plan_format.specs.Rows.{rows_end, rows_next, rows_room}
-use Rattle.plan_format.specs.Tables.{rows, station_row}
-use Rattle.plan_rows.specs.Runs.{run_length, stations_length}
+use Rattle.plan_format.specs.Rows.{rows_end}
+use Rattle.plan_format.specs.Tables.{station_row}
+use Rattle.plan_rows.specs.Runs.{copied, stations_room, run_is}
 use Rattle.plan_rows.proofs.load_stations.Goals as goal
 
-pub loop-i-init : goal.loop-i-init
-loop-i-init c = (omega arith, fill_start Float _ _, refl)
+pub slice_bounds-put_run-end : goal.slice_bounds-put_run-end
+slice_bounds-put_run-end c =
+    let l = c.loop-at in
+    let n = c.u16_at-n.ensures.0 in
+    let room = stations_room c.args.file.now c.args.sections.now l.at-index c.args.out.now l.out l.k c.loop-at-test.true l.invariant in
+    omega (arith, c.requires.2, c.requires.3, l.auto.out)
 
-pub overflow_add-at : goal.overflow_add-at
-overflow_add-at c =
-    let l = c.loop-i in
-    let pre = c.requires in
-    omega (arith, pre.0 l.i c.loop-i-test.true)
-
-pub u16_at-n-requires : goal.u16_at-n-requires
-u16_at-n-requires c =
-    let l = c.loop-i in
-    let pre = c.requires in
-    omega (arith, pre.0 l.i c.loop-i-test.true)
-
-pub overflow_add-at-in-loop-i : goal.overflow_add-at-in-loop-i
-overflow_add-at-in-loop-i c =
-    let loop-test = c.loop-i-test in
-    let l = c.loop-i in
-    let pre = c.requires in
-    omega (arith, pre.0 l.i loop-test.true)
-
-pub copy_doubles-requires : goal.copy_doubles-requires
-copy_doubles-requires c =
-    let u16-at = c.u16_at-n in
-    let loop-test = c.loop-i-test in
-    let l = c.loop-i in
-    let a = c.args in
-    let pre = c.requires in
-    let n = u16-at.ensures.0 in
-    let room =
-    rows_room station_row (section_at a.file.now) a.sections.now l.i a.out.now l.out l.k l.invariant.1
-    loop-test.true in
-    let long =
-    run_length f64_at 8 a.file.now (get_or a.sections.now l.i 0 + 28)
-    (u16_at a.file.now (get_or a.sections.now l.i 0 + 26)) in
-    let all = stations_length a.file.now a.sections.now in (
-      omega (arith, pre.1 l.i loop-test.true),
-      omega (arith, pre.2, pre.3, l.invariant.2),
-      omega (arith, u16-at.ensures.1),
-    )
-
-pub overflow_add-k : goal.overflow_add-k
-overflow_add-k c =
-    let u16-at = c.u16_at-n in
-    let loop-test = c.loop-i-test in
-    let l = c.loop-i in
-    let a = c.args in
-    let pre = c.requires in
-    let n = u16-at.ensures.0 in
-    let room =
-    rows_room station_row (section_at a.file.now) a.sections.now l.i a.out.now l.out l.k l.invariant.1
-    loop-test.true in
-    let long =
-    run_length f64_at 8 a.file.now (get_or a.sections.now l.i 0 + 28)
-    (u16_at a.file.now (get_or a.sections.now l.i 0 + 26)) in
-    let all = stations_length a.file.now a.sections.now in
-    omega (arith, pre.2)
-
-pub overflow_add-i : goal.overflow_add-i
-overflow_add-i c =
-    let loop-test = c.loop-i-test in
-    omega (arith, loop-test.true)
-
-pub loop-i-smaller : goal.loop-i-smaller
-loop-i-smaller c =
-    let loop-test = c.loop-i-test in
-    omega (arith, loop-test.true)
-
-pub loop-i-preserved : goal.loop-i-preserved
-loop-i-preserved c =
-    let copy-doubles = c.copy_doubles in
-    let u16-at = c.u16_at-n in
-    let loop-test = c.loop-i-test in
-    let l = c.loop-i in
-    let a = c.args in
-    let pre = c.requires in
-    let s = a.file.now in
-    let p = get_or a.sections.now l.i 0 in
-    let n = u16-at.ensures.0 in
-    let written = copy-doubles.ensures in
-    let row = rw n at written in
-    let room =
-    rows_room station_row (section_at s) a.sections.now l.i a.out.now l.out l.k l.invariant.1
-    loop-test.true in
-    let long = run_length f64_at 8 s (p + 28) (u16_at s (p + 26)) in
-    let all = stations_length s a.sections.now in
-    let next =
-    rows_next station_row (section_at s) a.sections.now l.i a.out.now l.out l.k l.invariant.1
-    loop-test.true _ u16-at.result row (omega arith) (omega (arith, pre.2, pre.3)) in
-    (omega (arith, loop-test.true), next, ap length written ∙ simp length-sets l.invariant.2)
-
-pub shape_of-out : goal.shape_of-out
-shape_of-out c = c.loop-i.invariant.2
+pub loop-at-preserved : goal.loop-at-preserved
+loop-at-preserved c =
+    let l = c.loop-at in
+    let s = c.args.file.now in
+    let p = get_or c.args.sections.now l.at-index 0 in
+    let n = c.u16_at-n.ensures.0 in
+    let room = stations_room s c.args.sections.now l.at-index c.args.out.now l.out l.k c.loop-at-test.true l.invariant in
+    let size : length c.put_run.new.out ≡ c.u16_at-n.result = omega (arith, c.requires.2, c.requires.3, l.auto.out, c.put_run.auto.out) in
+    let row =
+    run_is f64_at 8 s c.put_run.new.out (p + 28) (u16_at s (p + 26))
+    (λ (i : ℕ) (d : Float) (h : i < length c.put_run.new.out).
+    let e = c.put_run.ensures i d (omega (arith, c.put_run.auto.out)) in search rules)
+    (omega arith) in
+    copied station_row (section_at s) c.args.sections.now l.at-index c.args.out.now l.out l.k l.invariant c.loop-at-test.true
+    _ c.u16_at-n.result c.put_run.new.out row size (omega arith) (omega (arith, c.requires.2, c.requires.3))
 
 pub returns : goal.returns
 returns c =
-    let l = c.loop-i in
-    let a = c.args in
-    fill_end Float a.out.now l.out l.k _ _ l.invariant.1
-    (rows_end station_row (section_at a.file.now) a.sections.now l.i c.loop-i-test.false)
+    let l = c.loop-at in
+    fill_end Float c.args.out.now l.out l.k _ _ l.invariant
+    (rows_end station_row (section_at c.args.file.now) c.args.sections.now l.at-index c.loop-at-test.false)

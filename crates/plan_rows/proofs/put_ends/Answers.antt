@@ -1,38 +1,14 @@
--- Without tangents six zeros, else the six floats after the points.
-use mathlib.Core.Path.{ap, ◌∙◌}
-use native.Mathlib.Omega.{arith}
-use lib.Seq.{sets}
-use borrow.Author.Rules.{rules}
-use Rattle.plan_rows.specs.Runs.{end_none, end_room, end_some}
+-- With tangents: the six floats after the points.
+use Rattle.std.proofs.Common.{ℕ, Float, ◌+◌, ◌*◌, ◌<◌, ◌∙◌, arith, rules, length}
+use Rattle.fields.specs.Fields.{f32_at}
+use Rattle.plan_rows.specs.Runs.{end_some, run_is}
 use Rattle.plan_rows.proofs.put_ends.Goals as goal
 
-pub returns-then-u8_at-eq0 : goal.returns-then-u8_at-eq0
-returns-then-u8_at-eq0 c =
-    let put-zeros = c.put_zeros in
-    let if1 = c.if-u8_at-eq0 in
-    let u8-at = c.u8_at in
+pub returns-else-u8_at-eq0 : goal.returns-else-u8_at-eq0
+returns-else-u8_at-eq0 c =
     let a = c.args in
-    put-zeros.ensures ∙ ap (sets a.out.now a.k)
-    (end_none a.file.now a.at u8-at.result u8-at.ensures.0 if1.true)
-
-pub copy_floats-requires : goal.copy_floats-requires
-copy_floats-requires c =
-    let u16-at = c.u16_at-n in
-    let if1 = c.if-u8_at-eq0 in
-    let u8-at = c.u8_at in
-    let a = c.args in
-    let pre = c.requires in
-    let room =
-    end_room a.file.now a.at u8-at.result u16-at.result u8-at.ensures.0 if1.false u16-at.ensures.0
-    pre.1 in
-    (omega arith, pre.2, omega arith)
-
-pub returns : goal.returns
-returns c =
-    let copy-floats = c.copy_floats in
-    let u16-at = c.u16_at-n in
-    let if1 = c.if-u8_at-eq0 in
-    let u8-at = c.u8_at in
-    let a = c.args in
-    copy-floats.ensures ∙ ap (sets a.out.now a.k)
-    (end_some a.file.now a.at u8-at.result u16-at.result u8-at.ensures.0 if1.false u16-at.ensures.0)
+    run_is f32_at 4 a.file.now c.put_run.new.out (a.at + 13 + 12 * c.u16_at-n.result) 6
+    (λ (i : ℕ) (d : Float) (h : i < length c.put_run.new.out).
+    let e = c.put_run.ensures i d (omega (arith, c.put_run.auto.out)) in search rules)
+    (omega (arith, c.requires.2, c.put_run.auto.out))
+    ∙ end_some a.file.now a.at c.u8_at.result c.u16_at-n.result c.u8_at.ensures.0 c.if-u8_at-eq0.false c.u16_at-n.ensures.0
