@@ -8,7 +8,7 @@ ghost use Rattle.tables.specs.LaneTables.{Calls, lane_tables};
 ghost use Rattle.lanes_pose.specs.Pose.{PoseFronts};
 
 use plan_format::LaneId;
-use pose::{Posed, pose_in, refuse};
+use pose::{Lanes, Posed, refuse};
 use tables::open;
 
 // The pose from the front of each table, n lanes with m points.
@@ -26,13 +26,14 @@ fn pose_from(
     ensures { result ≡ pose_row lane.0 s n (take (6 * n) lanes.now) (take (3 * m) points.now)
         (take m cumulative.now) (take (3 * m) tangents.now) }
 {
-    let a = 6 * n;
-    let b = 3 * m;
-    let ls = &lanes[..a];
-    let ps = &points[..b];
-    let cs = &cumulative[..m];
-    let ts = &tangents[..b];
-    pose_in(lane, s, n, ls, ps, cs, ts)
+    let rows = Lanes {
+        count: n,
+        rows: &lanes[..6 * n],
+        points: &points[..3 * m],
+        cumulative: &cumulative[..m],
+        tangents: &tangents[..3 * m],
+    };
+    rows.pose(lane, s)
 }
 
 // The place and the heading on a lane at the arc length s, which is clamped to the lane: numbers 1 to 8, and 12 for an unknown lane.

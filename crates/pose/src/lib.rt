@@ -71,13 +71,12 @@ impl<'a> Lanes<'a> {
     pub fn pose(&self, lane: LaneId, s: f32) -> Posed
         ensures { result ≡ pose_row lane.0 s self.now.count self.now.rows.now self.now.points.now self.now.cumulative.now self.now.tangents.now }
     {
-        let i = find_lane(lane, self.rows, self.count);
-        if i == 256 {
-            return refuse(12);
-        }
-        Posed {
-            number: 0,
-            pose: self.pose_on(i, s),
+        match find_lane(lane, self.rows, self.count) {
+            None => refuse(12),
+            Some(i) => Posed {
+                number: 0,
+                pose: self.pose_on(i, s),
+            },
         }
     }
 }

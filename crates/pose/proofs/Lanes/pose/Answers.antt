@@ -1,17 +1,20 @@
-use Rattle.std.proofs.Common.{rules, ◌≡◌, ◌<◌, ℕ, ◌+◌, ◌-◌, ◌*◌, ◌≤◌, length, ◌/◌, ◌%◌, Bool, true, false, nat_eq, nat_lt, List, [], ◌∷◌, ◌++◌, slice_index_or, slice_set, bit_and, bit_or, Fits, w8, w32, w64, Bor, MutBor}
-use Rattle.geometry.specs.Locate.{pose_along}
-use Rattle.rows.specs.Rows.{arcs_of, points_of, tangents_of}
-use Rattle.pose.specs.Lanes.{refused_pose, pose_row, Polyline, Polylines}
+-- `pose` gets number 12 where the search finds no row.
+use Rattle.std.proofs.Common.{arith, refl}
+use Rattle.pose.specs.Laws.{known, unknown}
 use Rattle.pose.proofs.Lanes.pose.Goals as goal
 
--- src/lib.rt:76:13
-pub returns-then-i-eq256 : goal.returns-then-i-eq256
-returns-then-i-eq256 c = ?
+pub returns-in-None : goal.returns-in-None
+returns-in-None c =
+    let a = c.args in
+    let s = a.self.now in
+    unknown a.lane.0 a.s s.count s.rows.now s.points.now s.cumulative.now s.tangents.now 256 c.in-None.ensures.row refl
+    c.refuse.result c.refuse.ensures
 
--- src/lib.rt:80:19
-pub pose_on-requires : goal.pose_on-requires
-pose_on-requires c = ?
-
--- src/lib.rt:71:5
-pub returns : goal.returns
-returns c = ?
+pub returns-in-Some : goal.returns-in-Some
+returns-in-Some c =
+    let a = c.args in
+    let s = a.self.now in
+    let few = s.polylines.few in
+    let below = c.in-Some.ensures.found.0 in
+    known a.lane.0 a.s s.count s.rows.now s.points.now s.cumulative.now s.tangents.now c.in-Some.i c.in-Some.ensures.row
+    (λ q. absurd (omega arith)) c.pose_on.result c.pose_on.ensures
