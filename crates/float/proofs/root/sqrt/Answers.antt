@@ -2,7 +2,7 @@
 use Rattle.std.proofs.Common.{◌%◌, ◌≤◌, sym, ap, ◌∙◌, arith}
 use lib.Ieee.{binary32, to_bits}
 use Rattle.float.specs.Root.{sqrt_of}
-use Rattle.float.proofs.Nans.{nan_by, no_nan, no_nan_below, number_below, zero_over_zero}
+use Rattle.float.proofs.Nans.{own_nan, no_nan, no_nan_below, number_below, zero_over_zero}
 use Rattle.float.proofs.Signs.{abs_no_nan_bits}
 use Rattle.float.proofs.RootPatterns.{root_nan, infinity, zeros, negative, through, bounded}
 use Rattle.float.proofs.root.sqrt.Goals as goal
@@ -12,7 +12,7 @@ most : (c : goal.Else-x) → to_bits binary32 c.args.x % 2147483648 ≤ 21390950
 most c = number_below binary32 (to_bits binary32 _) (abs_no_nan_bits binary32 _ c.well_formed.0.1 (no_nan _ c.if-x.false))
 
 pub returns-then-x : goal.returns-then-x
-returns-then-x c = nan_by _ c.if-x.true ∙ sym (ap sqrt_of (nan_by _ c.if-x.true) ∙ root_nan)
+returns-then-x c = own_nan sqrt_of root_nan _ c.if-x.true
 
 pub float_to_bits-b : goal.float_to_bits-b
 float_to_bits-b c = no_nan _ c.if-x.false

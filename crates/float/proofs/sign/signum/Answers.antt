@@ -1,13 +1,13 @@
 -- Case by case as the definition.
-use Rattle.std.proofs.Common.{true, false, sym, ap, ◌∙◌}
+use Rattle.std.proofs.Common.{true, false, sym, ◌∙◌}
 use lib.Ieee.{of_bits, neg}
 use Rattle.float.specs.Sign.{signum_of}
-use Rattle.float.proofs.Nans.{nan_by, no_nan}
+use Rattle.float.proofs.Nans.{own_nan, no_nan}
 use Rattle.float.proofs.Signs.{signum_nan, signum_is}
 use Rattle.float.proofs.sign.signum.Goals as goal
 
 pub returns-then-x : goal.returns-then-x
-returns-then-x c = nan_by _ c.if-x.true ∙ sym (ap signum_of (nan_by _ c.if-x.true) ∙ signum_nan)
+returns-then-x c = own_nan signum_of signum_nan _ c.if-x.true
 
 pub returns-then-is_sign_negative : goal.returns-then-is_sign_negative
 unfolding of_bits neg

@@ -1,13 +1,12 @@
 -- The remainder by the sign's bit is the pattern of |x|.
-use Rattle.std.proofs.Common.{sym, ap, ◌∙◌}
 use lib.Ieee.{binary64}
 use Rattle.float.specs.Sign.{abs_of}
-use Rattle.float.proofs.Nans.{nan_by, no_nan}
+use Rattle.float.proofs.Nans.{own_nan, no_nan}
 use Rattle.float.proofs.Signs.{abs_nan, abs_of_bits, abs_no_nan_bits}
 use Rattle.float.proofs.real.F64Real.abs.Goals as goal
 
 pub returns-then-self : goal.returns-then-self
-returns-then-self c = nan_by _ c.if-self.true ∙ sym (ap abs_of (nan_by _ c.if-self.true) ∙ abs_nan)
+returns-then-self c = own_nan abs_of abs_nan _ c.if-self.true
 
 pub float_to_bits-result : goal.float_to_bits-result
 float_to_bits-result c = no_nan _ c.if-self.false
