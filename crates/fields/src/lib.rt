@@ -1,4 +1,4 @@
-// Little-endian fields of a slice of bytes.
+// Little-endian fields of a slice of bytes. Each sum is the definition's own: from_le_bytes would first want the bytes put into an array.
 #![tactic(auto)]
 
 ghost use Rattle.std.specs.Prelude.{◌≡◌, ◌+◌, ◌≤◌, ◌<◌, length};
@@ -18,6 +18,7 @@ pub fn u16_at(s: &[u8], at: usize) -> usize
     u8_at(s, at) + u8_at(s, at + 1) * 256
 }
 
+#[tactic(auto, unfolding(crate::specs::Fields::u32_at))]
 pub fn u32_at(s: &[u8], at: usize) -> usize
     requires { at + 4 ≤ length s.now }
     ensures { (result ≡ u32_at s.now at) × (result < 4294967296) }
@@ -25,6 +26,7 @@ pub fn u32_at(s: &[u8], at: usize) -> usize
     u16_at(s, at) + u16_at(s, at + 2) * 65536
 }
 
+#[tactic(auto, unfolding(crate::specs::Fields::u64_at))]
 pub fn u64_at(s: &[u8], at: usize) -> u64
     requires { at + 8 ≤ length s.now }
     ensures { result ≡ u64_at s.now at }

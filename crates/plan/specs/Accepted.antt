@@ -1,7 +1,7 @@
 -- What an accepted plan guarantees, for the crates above: counts, ranges, numbers that stand once, rows that exist.
-use Rattle.std.specs.Prelude.{Bool, ◌&&◌, List, [], map, ◌∷◌, ◌≡◌, suc, zero, ℕ, ◌*◌, ◌+◌, ◌-◌, ◌<◌, ◌≤◌, T, eqb, leb, Float, get_or, length, replicate, set}
+use Rattle.std.specs.Prelude.{Bool, ◌&&◌, List, [], map, ◌∷◌, ◌≡◌, suc, zero, ℕ, ◌*◌, ◌+◌, ◌-◌, ◌<◌, ◌≤◌, T, eqb, leb, Float, get_or, length}
 use Rattle.std.proofs.Math.Bool.{cond, false, true}
-use Rattle.std.proofs.Common.{ap, subst, sym, ◌∙◌, le_of_suc-le-suc, not-suc-le-zero}
+use Rattle.std.proofs.Common.{subst, sym, ◌∙◌, le_of_suc-le-suc, not-suc-le-zero}
 use Rattle.std.proofs.Math.Path.{refl}
 use native.Mathlib.Omega.{arith}
 use Rattle.std.proofs.Math.Dec.{ltb}
@@ -14,18 +14,16 @@ use Rattle.fields.specs.Fields.{f32_at, f64_at, u16_at, u32_at, u8_at}
 use Rattle.plan_format.specs.Decodes.{decodes}
 use Rattle.plan_format.specs.Laws.{Bytes, and_fst, and_snd, any_none, every_each, get_or_map_in, long_below, or_fst, or_snd, word_below}
 use Rattle.plan_format.specs.Lookup.{index_in}
-use Rattle.plan_format.specs.Plan.{Plan, Starts, Walked, accepted, any, coordinate, counts_of, decode, ended, every, from_missing}
+use Rattle.plan_format.specs.Plan.{Plan, Starts, accepted, any, coordinate, counts_of, decode, ended, every, from_missing}
 use Rattle.plan_format.specs.Plan.{in_range, items_at, lacks, lane_count, lane_of, lane_range, misplaced, none, number_of, place_key}
-use Rattle.plan_format.specs.Plan.{place_lane, place_section, plan_of, record_number, refused, repeats, rises, rises_from, section_count}
-use Rattle.plan_format.specs.Plan.{section_key, section_of, section_range, station, twice, walked}
-use Rattle.plan_format.specs.Reading.{plan_counts, read_of}
+use Rattle.plan_format.specs.Plan.{place_lane, place_section, plan_of, record_number, repeats, rises, rises_from, section_count}
+use Rattle.plan_format.specs.Plan.{section_key, section_of, section_range, station, stopped, twice, walked, with_record}
+use Rattle.plan_format.specs.Reading.{plan_counts}
 use Rattle.plan_format.specs.Records.{Lane, Link, Place, Section, floats, lane_at, link_at, place_at, raised_at, run, section_at}
 use Rattle.plan_format.specs.Tables.{end_row}
-use Rattle.plan_format.specs.declared.Counts.{Counts}
-use Rattle.plan_format.specs.declared.Read.{Read}
 use Rattle.plan_rows.specs.Runs.{end_length, run_length}
-use Rattle.plan_scan.specs.Limits.{Limited, more, slot_of}
-use Rattle.plan_scan.specs.Scan.{Scanned, Scanning, Sound, next_as, scan_end, scan_start, scan_stop}
+use Rattle.plan_scan.specs.Limits.{Limited}
+use Rattle.plan_scan.specs.Scan.{Sound, Walking, walk_ends, walk_next, walk_start, walk_stops}
 use Rattle.plan.specs.Checking.{plan_counts_law}
 
 -- a lane: its fields lie in their ranges, its points are coordinates, each an f32
@@ -85,37 +83,34 @@ module _ (s : List ℕ) (a : Starts) (is : walked s ≡ ended a) where
   abbrev All : Type 0
   All = Sound s a × Limited (counts_of a)
 
-  at_end_law : (at : ℕ) (c : Counts) (h : List ℕ) → Scanning s at c h → length s ≤ at → All
-  at_end_law at c h S l =
-      let r = subst (λ (w : Walked). Scanned s w (record { number = 0; counts = c }) h) is (scan_end s at c h S l) in
-      (r.3, r.1)
+  at_end_law : (at : ℕ) (b : Starts) → Walking s at b → length s ≤ at → All
+  at_end_law at b W l =
+      let same : ended a ≡ ended b = sym is ∙ walk_ends s at b W l in
+      subst (λ (x : Starts). Sound s x × Limited (counts_of x)) (ended_same b a same) (W.sound, W.limited)
+    where
+      ended_same : (b a : Starts) → ended a ≡ ended b → b ≡ a
+      ended_same b a e = cc
 
-  step : (n : ℕ) → ((at : ℕ) (c : Counts) (h : List ℕ) → Scanning s at c h → length s ≤ at + n → All)
-      → (at : ℕ) (c : Counts) (h : List ℕ) → Scanning s at c h → length s ≤ at + suc n
-      → (b z : Bool) → ltb at (length s) ≡ b → eqb (record_number s at c) 0 ≡ z → All
-  step n go at c h S l false z e f = at_end_law at c h S (ltb-false at (length s) e)
-  step n go at c h S l true true e f =
-      let q = ltb-true at (length s) e in
-      let v = eqb-true (record_number s at c) 0 f in
-      let kind = u16_at s (at + 4) in
-      let items = items_at s at kind in
-      let next =
-      next_as s at c (record_number s at c) refl v kind (u32_at s at) refl refl h S q items (slot_of kind c)
-      (more kind items c) refl refl refl in
-      go (at + 6 + u32_at s at) (more kind items c) (set h (slot_of kind c) at) next (omega arith)
-  step n go at c h S l true false e f =
-      let q = ltb-true at (length s) e in
-      let v = eqb-false (record_number s at c) 0 f in
-      let r = read_of (refused (record_number s at c)) in
-      let stop = subst (λ (w : Walked). Scanned s w r h) is (scan_stop s at c h S q (record_number s at c) refl v r refl h) in
-      absurd (v (ap (λ (x : Read). x.number) stop.0))
+  step : (n : ℕ) → ((at : ℕ) (b : Starts) → Walking s at b → length s ≤ at + n → All)
+      → (at : ℕ) (b : Starts) → Walking s at b → length s ≤ at + suc n
+      → (t z : Bool) → ltb at (length s) ≡ t → eqb (record_number s at (counts_of b)) 0 ≡ z → All
+  step n go at b W l false z e f = at_end_law at b W (ltb-false at (length s) e)
+  step n go at b W l true true e f =
+      let next = walk_next s at b W (ltb-true at (length s) e) (eqb-true (record_number s at (counts_of b)) 0 f) in
+      go (at + 6 + u32_at s at) (with_record at (u16_at s (at + 4)) (items_at s at (u16_at s (at + 4))) b) next (omega arith)
+  step n go at b W l true false e f =
+      let stop = walk_stops s at b W (ltb-true at (length s) e) (eqb-false (record_number s at (counts_of b)) 0 f) in
+      absurd (never (record_number s at (counts_of b)) a (sym stop ∙ is))
+    where
+      never : (v : ℕ) (a : Starts) → stopped v ≡ ended a → ⊥
+      never v a q = let z : ◌≡◌ {A = ℕ} 0 1 = cc in omega arith
 
-  walk_all : (n at : ℕ) (c : Counts) (h : List ℕ) → Scanning s at c h → length s ≤ at + n → All
-  walk_all zero at c h S l = at_end_law at c h S (omega arith)
-  walk_all (suc n) at c h S l = step n (walk_all n) at c h S l (ltb at (length s)) (eqb (record_number s at c) 0) refl refl
+  walk_all : (n at : ℕ) (b : Starts) → Walking s at b → length s ≤ at + n → All
+  walk_all zero at b W l = at_end_law at b W (omega arith)
+  walk_all (suc n) at b W l = step n (walk_all n) at b W l (ltb at (length s)) (eqb (record_number s at (counts_of b)) 0) refl refl
 
   all_passed : All
-  all_passed = walk_all (length s) 0 (counts_of none) (replicate 2625 0) (scan_start s (replicate 2625 0) refl) (omega arith)
+  all_passed = walk_all (length s) 0 none (walk_start s) (omega arith)
 
 -- ONE RECORD
 opened_from : (x y : Float) (ys : List Float) → rises_from x (y ∷ ys) ≡ true → (lt x y && rises_from y ys) ≡ true

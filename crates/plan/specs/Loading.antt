@@ -1,5 +1,6 @@
 -- The tables that the code loads, and the answer with them, are those of the definition.
-use Rattle.std.specs.Prelude.{Bool, false, true, ◌||◌, List, [], map, ◌≡◌, ℕ, ◌≤◌, ltb, Float, length}
+use Rattle.std.specs.List.{list_any}
+use Rattle.std.specs.Prelude.{Bool, false, true, ◌||◌, List, [], ◌∷◌, map, ◌≡◌, ℕ, ◌≤◌, ltb, Float, length}
 use Rattle.std.proofs.Common.{ap, ◌∙◌, ltb-false}
 use Rattle.std.proofs.Math.Path.{refl, sym}
 use Rattle.plan_format.specs.Laws.{or_fst, or_snd}
@@ -8,14 +9,13 @@ use Rattle.plan_format.specs.Reading.{Answers, opened, read_of, short, tables_of
 use Rattle.plan_format.specs.Records.{Link, lane_at, link_at, place_at, section_at}
 use Rattle.plan_format.specs.Tables.{Tables, bound_row, end_row, fan_row, group, lane_row, link_count, loaded, over, place_row, plan_rows, point_row}
 use Rattle.plan_format.specs.Tables.{rows, rows_from, section_row, station_row, tables}
-use Rattle.plan_format.specs.declared.Counts.{Counts}
 use Rattle.plan_format.specs.declared.Read.{Read}
 use Rattle.plan_links.specs.Linked.{Linkable}
 use Rattle.plan_scan.specs.Parts.{listed}
+use Rattle.plan_scan.specs.declared.starts.RecordStarts.{RecordStarts}
 use Rattle.plan_whole.specs.Keys.{key_at, lane_keys, place_lanes}
 use Rattle.plan_whole.specs.Missing.{Searching}
-use Rattle.plan.specs.Checking.{Checked, Loadable, lanes_are, lanes_in, links_are, links_in, parts_in, places_are, places_in}
-use Rattle.plan.specs.Checking.{sections_are, sections_in}
+use Rattle.plan.specs.Checking.{Checked, Loadable, parts_in}
 
 -- NUMBER 1, by the lengths of the tables
 unfoldable pub short_by : ℕ → ℕ → ℕ → ℕ → ℕ → ℕ → ℕ → ℕ → ℕ → Bool
@@ -30,6 +30,28 @@ short_in t =
 pub short_is : (t : Tables) → short t ≡ short_in t
 unfolding short short_by
 short_is t = refl
+
+-- the lengths with their limits
+abbrev pub lengths : Tables → List (ℕ × ℕ)
+lengths t =
+    (length t.lanes, 1536)
+    ∷ (length t.points, 12288)
+    ∷ (length t.ends, 1536)
+    ∷ (length t.fans, 1280)
+    ∷ (length t.links, 4096)
+    ∷ (length t.sections, 256)
+    ∷ (length t.bounds, 128)
+    ∷ (length t.stations, 4096)
+    ∷ (length t.places, 768)
+    ∷ []
+
+or_none : (b : Bool) → (b || false) ≡ b
+or_none true = refl
+or_none false = refl
+
+pub short_listed : (t : Tables) → short_in t ≡ list_any (λ (x : ℕ × ℕ). ltb x.0 x.1) (lengths t)
+unfolding short_by
+short_listed t = rw (or_none (ltb (length t.places) 768)) refl
 
 -- tables that are long enough
 pub record Long (t : Tables) : Type 0 where
@@ -71,45 +93,45 @@ abbrev pub Loads : List ℕ → Tables → Tables → Type 0
 Loads s t t' = (p : Plan) → decode 0 s ≡ accepted p → t' ≡ loaded p t
 
 -- THE TABLES, each as its function writes it
-module _ (s : List ℕ) (c : Counts) (h m : List ℕ) (K : Loadable s c h m) where
+module _ (s : List ℕ) (h : RecordStarts) (m : List ℕ) (K : Loadable s h m) where
   abbrev lane_starts : List ℕ
-  lane_starts = lanes_in c h
+  lane_starts = h.lanes.items
 
   abbrev links_in_law : List Link
-  links_in_law = map (link_at s) (links_in c h)
+  links_in_law = map (link_at s) h.links.items
 
   abbrev section_starts : List ℕ
-  section_starts = sections_in c h
+  section_starts = h.sections.items
 
   abbrev place_starts : List ℕ
-  place_starts = places_in c h
+  place_starts = h.places.items
 
   abbrev numbers : List ℕ
-  numbers = map (key_at s 0) (lanes_in c h)
+  numbers = map (key_at s 0) h.lanes.items
 
-  pub linkable : Linkable s (lanes_in c h) (links_in c h) (places_in c h) m
+  pub linkable : Linkable s h.lanes.items h.links.items h.places.items m
   linkable =
-      let P = parts_in s c h K.standing in
+      let P = parts_in s h K.standing in
       record {
         lane = record { room = P.lane; count = P.lanes };
         link = P.link;
         links = P.links;
         role = P.role;
         place = record { room = P.place; count = P.places };
-        once = rw (lanes_are s c h K.standing) K.once;
-        from = rw (lanes_are s c h K.standing, links_are s c h K.standing) K.from;
-        index = rw (lanes_are s c h K.standing) K.index;
+        once = rw (K.standing.kept.lanes) K.once;
+        from = rw (K.standing.kept.lanes, K.standing.kept.links) K.from;
+        index = rw (K.standing.kept.lanes) K.index;
       }
 
-  pub searching : Searching s (lanes_in c h) (sections_in c h) m
+  pub searching : Searching s h.lanes.items h.sections.items m
   searching =
-      let P = parts_in s c h K.standing in
+      let P = parts_in s h K.standing in
       record {
         lane = P.lane;
         lanes = P.lanes;
         section = P.section;
         sections = P.sections;
-        rows = rw (lanes_are s c h K.standing) K.index;
+        rows = rw (K.standing.kept.lanes) K.index;
       }
 
   pub loaded_by : (t : Tables) (lanes : List ℕ) (points ends : List Float) (fans links sections : List ℕ)
@@ -139,10 +161,10 @@ module _ (s : List ℕ) (c : Counts) (h m : List ℕ) (K : Loadable s c h m) whe
         e₆,
         e₇,
         e₈,
-        lanes_are s c h K.standing,
-        links_are s c h K.standing,
-        sections_are s c h K.standing,
-        places_are s c h K.standing,
+        K.standing.kept.lanes,
+        K.standing.kept.links,
+        K.standing.kept.sections,
+        K.standing.kept.places,
         lane_keys s a.lanes,
         place_lanes s a.places,
       )
@@ -153,7 +175,7 @@ module _ (side : ℕ) (s : List ℕ) (t : Tables) where
   unfolding opened
   answers_short e r q = rw (short_is t, e) (record { read = q; tables = refl })
 
-  module _ (long : short_in t ≡ false) (r : Read) (h m : List ℕ) (C : Checked side s r h m) where
+  module _ (long : short_in t ≡ false) (r : Read) (h : RecordStarts) (m : List ℕ) (C : Checked side s r h m) where
     opened_long : opened (short t) side s ≡ decode side s
     unfolding opened
     opened_long = rw (short_is t, long)

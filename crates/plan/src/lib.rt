@@ -1,76 +1,70 @@
 // The plan of a file in the lent tables: `check` reads only, `load` writes, `read_plan` does both for every input.
 #![tactic(auto)]
 
-ghost use Rattle.std.specs.Prelude.{◌≡◌, length, map, OnOk};
+ghost use Rattle.std.specs.Prelude.{◌≡◌, length, map, OnOk, nat_lt};
+ghost use Rattle.std.specs.List.{list_any};
 ghost use Rattle.plan_format.specs.Tables.{tables};
 ghost use Rattle.plan_format.specs.Reading.{Answers, opened, short};
-ghost use Rattle.plan_format.specs.Refusals.{found_number};
+ghost use Rattle.plan_format.specs.Refusals.{found_number, read_by};
 ghost use Rattle.plan_whole.specs.Whole.{whole_in};
 ghost use Rattle.plan_whole.specs.ByNumber.{ByNumber};
 ghost use Rattle.plan_whole.specs.Keys.{key_at};
-ghost use Rattle.plan.specs.Checking.{Standing, Loadable, Checked, lanes_in, links_in, sections_in, places_in};
-ghost use Rattle.plan.specs.Loading.{Long, short_by, Loads};
+ghost use Rattle.plan.specs.Checking.{Standing, Loadable, Checked};
+ghost use Rattle.plan.specs.Loading.{Long, Loads};
 
-use plan_format::{Counts, Read, Refusal, refused};
+use plan_format::{Counts, Refusal};
 use plan_links::load_links;
 use plan_rows::{
     load_bounds, load_ends, load_lanes, load_places, load_points, load_sections, load_stations,
 };
-use plan_scan::scan;
+use plan_scan::{RecordStarts, scan};
 use plan_whole::Records;
 
-// What the whole file is refused for, after a scan that found nothing and these counts.
+// What the whole file is refused for, after a scan that found nothing and these starts.
 fn check_whole(
     file: &[u8],
     side: usize,
-    starts: &[usize],
-    c: Counts,
+    starts: &RecordStarts,
     index: &mut [u16],
 ) -> Result<(), Refusal>
-    requires { Standing file.now c starts.now × (length index.old ≡ 65536) }
-    ensures number { found_number result ≡ whole_in file.now side (lanes_in c starts.now) (links_in c starts.now)
-        (sections_in c starts.now) (places_in c starts.now) }
-    ensures rows { OnOk result (ByNumber index.new (map (key_at file.now 0) (lanes_in c starts.now)) 0) }
+    requires { Standing file.now starts.now × (length index.old ≡ 65536) }
+    ensures number { found_number result ≡ whole_in file.now side starts.now.lanes.items starts.now.links.items
+        starts.now.sections.items starts.now.places.items }
+    ensures rows { OnOk result (ByNumber index.new (map (key_at file.now 0) starts.now.lanes.items) 0) }
 {
-    let a = c.lanes;
-    let b = 256 + c.links;
-    let d = 2304 + c.sections;
-    let e = 2368 + c.places;
     let records = Records {
         file,
-        lanes: &starts[..a],
-        links: &starts[256..b],
-        sections: &starts[2304..d],
-        places: &starts[2368..e],
+        lanes: starts.lanes.as_slice(),
+        links: starts.links.as_slice(),
+        sections: starts.sections.as_slice(),
+        places: starts.places.as_slice(),
     };
     records.whole(side, index)
 }
 
-// The number and the counts of a file, numbers 2 to 8. `side` is the side that a caller gives, 0 where none does.
+// What a file is refused for, numbers 2 to 8, or its counts. `side` is the side that a caller gives, 0 where none does.
 // For an accepted file `starts` then has where its records start, `index` the row of each lane number.
-pub fn check(file: &[u8], side: usize, starts: &mut [usize], index: &mut [u16]) -> Read
-    requires { (length starts.old ≡ 2625) × (length index.old ≡ 65536) }
-    ensures { Checked side file.now result starts.new index.new }
+pub fn check(
+    file: &[u8],
+    side: usize,
+    starts: &mut RecordStarts,
+    index: &mut [u16],
+) -> Result<Counts, Refusal>
+    requires { length index.old ≡ 65536 }
+    ensures { Checked side file.now (read_by result) starts.new index.new }
 {
     if 65536 < file.len() {
-        return refused(2);
+        return Err(Refusal::LongFile);
     }
-    let found = scan(file, starts);
-    if found.number != 0 {
-        return found;
-    }
-    let c = found.counts;
-    match check_whole(file, side, starts, c, index) {
-        Ok(()) => found,
-        Err(refusal) => refused(refusal.number()),
-    }
+    let counts = scan(file, starts)?;
+    check_whole(file, side, starts, index)?;
+    Ok(counts)
 }
 
 // The tables of an accepted file, from what `check` found.
 pub fn load(
     file: &[u8],
-    c: Counts,
-    starts: &[usize],
+    starts: &RecordStarts,
     index: &[u16],
     lanes: &mut [usize],
     points: &mut [f32],
@@ -82,7 +76,7 @@ pub fn load(
     stations: &mut [f64],
     places: &mut [usize],
 )
-    requires { Loadable file.now c starts.now index.now
+    requires { Loadable file.now starts.now index.now
         × Long
         (tables lanes.old points.old ends.old fans.old links.old sections.old bounds.old stations.old
         places.old) }
@@ -92,14 +86,10 @@ pub fn load(
         (tables lanes.new points.new ends.new fans.new links.new
         sections.new bounds.new stations.new places.new) }
 {
-    let a = c.lanes;
-    let b = 256 + c.links;
-    let d = 2304 + c.sections;
-    let e = 2368 + c.places;
-    let ls = &starts[..a];
-    let ks = &starts[256..b];
-    let ss = &starts[2304..d];
-    let ps = &starts[2368..e];
+    let ls = starts.lanes.as_slice();
+    let ks = starts.links.as_slice();
+    let ss = starts.sections.as_slice();
+    let ps = starts.places.as_slice();
     load_lanes(file, ls, lanes);
     load_points(file, ls, points);
     load_ends(file, ls, ends);
@@ -110,48 +100,14 @@ pub fn load(
     load_places(file, ls, ss, ps, index, places);
 }
 
-// Whether one of the tables is shorter than its limit.
-fn are_short(
-    lanes: usize,
-    points: usize,
-    ends: usize,
-    fans: usize,
-    links: usize,
-    sections: usize,
-    bounds: usize,
-    stations: usize,
-    places: usize,
-) -> bool
-    ensures { result ≡ short_by lanes points ends fans links sections bounds stations places }
+// Whether a table is shorter than its limit, each a length with its limit.
+fn are_short(tables: &[(usize, usize)]) -> bool
+    ensures { result ≡ list_any (λ t. nat_lt t.0 t.1) tables.now }
 {
-    if lanes < 1536 {
-        return true;
-    }
-    if points < 12288 {
-        return true;
-    }
-    if ends < 1536 {
-        return true;
-    }
-    if fans < 1280 {
-        return true;
-    }
-    if links < 4096 {
-        return true;
-    }
-    if sections < 256 {
-        return true;
-    }
-    if bounds < 128 {
-        return true;
-    }
-    if stations < 4096 {
-        return true;
-    }
-    places < 768
+    tables.iter().any(|(length, limit)| length < limit)
 }
 
-// Reads the plan of a file into the lent tables: numbers 1 to 8 and the counts. Nothing is written unless the answer is 0.
+// Reads the plan of a file into the lent tables: numbers 1 to 8, or the counts. Nothing is written of a file that is refused.
 pub fn read_plan(
     file: &[u8],
     side: usize,
@@ -164,42 +120,38 @@ pub fn read_plan(
     bounds: &mut [f64],
     stations: &mut [f64],
     places: &mut [usize],
-) -> Read
+) -> Result<Counts, Refusal>
     ensures { Answers
         (opened
         (short
         (tables lanes.old points.old ends.old fans.old links.old
         sections.old bounds.old stations.old places.old))
         side file.now)
-        result
+        (read_by result)
         (tables lanes.old points.old ends.old fans.old links.old
         sections.old bounds.old stations.old places.old)
         (tables lanes.new points.new ends.new fans.new links.new
         sections.new bounds.new stations.new places.new) }
 {
-    if are_short(
-        lanes.len(),
-        points.len(),
-        ends.len(),
-        fans.len(),
-        links.len(),
-        sections.len(),
-        bounds.len(),
-        stations.len(),
-        places.len(),
-    ) {
-        return refused(1);
+    let lengths = [
+        (lanes.len(), 1536),
+        (points.len(), 12288),
+        (ends.len(), 1536),
+        (fans.len(), 1280),
+        (links.len(), 4096),
+        (sections.len(), 256),
+        (bounds.len(), 128),
+        (stations.len(), 4096),
+        (places.len(), 768),
+    ];
+    if are_short(&lengths) {
+        return Err(Refusal::ShortTable);
     }
-    let mut starts = [0usize; 2625];
+    let mut starts = RecordStarts::new();
     let mut index = [0u16; 65536];
-    let r = check(file, side, &mut starts, &mut index);
-    if r.number != 0 {
-        return r;
-    }
-    let c = r.counts;
+    let counts = check(file, side, &mut starts, &mut index)?;
     load(
-        file, c, &starts, &index, lanes, points, ends, fans, links, sections, bounds, stations,
-        places,
+        file, &starts, &index, lanes, points, ends, fans, links, sections, bounds, stations, places,
     );
-    r
+    Ok(counts)
 }

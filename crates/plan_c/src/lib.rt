@@ -32,7 +32,7 @@ pub extern "C" fn kartsodi_read_plan(
         (tables lanes.new points.new ends.new fans.new links.new
         sections.new bounds.new stations.new places.new) }
 {
-    plan::read_plan(
+    Read::from(plan::read_plan(
         file, side, lanes, points, ends, fans, links, sections, bounds, stations, places,
-    )
+    ))
 }

@@ -2,8 +2,9 @@
 pub mod Records
 pub mod Plan
 pub mod Tables
-pub mod Refusals
 pub mod Reading
+pub mod Refusals
+pub mod Kinds
 pub mod Queries
 pub mod Keys
 pub mod Decodes

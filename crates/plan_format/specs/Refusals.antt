@@ -1,6 +1,10 @@
 -- The number that an answer gives for each refusal.
-use Rattle.std.specs.Prelude.{ℕ}
+use Rattle.std.specs.Prelude.{ℕ, ◌≡◌}
+use Rattle.std.proofs.Common.{arith}
 use Rattle.std.specs.Prelude.{Result, Ok, Err}
+use Rattle.plan_format.specs.Reading.{no_counts}
+use Rattle.plan_format.specs.declared.Counts.{Counts}
+use Rattle.plan_format.specs.declared.Read.{Read}
 use Rattle.plan_format.specs.declared.Refusal.{Refusal}
 use Rattle.plan_format.specs.declared.Refusal.TheVariants.{ShortTable, LongFile, CutRecord, WrongLength, OutOfRange, OverLimit, StandsTwice, Missing}
 use Rattle.plan_format.specs.declared.Refusal.TheVariants.{NotFinite, NoLaneDrives, NoChain, OffTheLanes, InfiniteDistance, ShortList, NoLaneBeside}
@@ -26,3 +30,25 @@ number_of NoLaneBeside = 15
 abbrev pub found_number : {A : Type 0} → Result A Refusal → ℕ
 found_number (Ok x) = 0
 found_number (Err e) = number_of e
+
+-- the answer that C gets: the number, and the counts
+abbrev pub read_by : Result Counts Refusal → Read
+read_by (Ok c) = record { number = 0; counts = c }
+read_by (Err e) = record { number = number_of e; counts = no_counts }
+
+pub refusal_number : (e : Refusal) → number_of e ≡ 0 → ⊥
+refusal_number ShortTable h = omega arith
+refusal_number LongFile h = omega arith
+refusal_number CutRecord h = omega arith
+refusal_number WrongLength h = omega arith
+refusal_number OutOfRange h = omega arith
+refusal_number OverLimit h = omega arith
+refusal_number StandsTwice h = omega arith
+refusal_number Missing h = omega arith
+refusal_number NotFinite h = omega arith
+refusal_number NoLaneDrives h = omega arith
+refusal_number NoChain h = omega arith
+refusal_number OffTheLanes h = omega arith
+refusal_number InfiniteDistance h = omega arith
+refusal_number ShortList h = omega arith
+refusal_number NoLaneBeside h = omega arith

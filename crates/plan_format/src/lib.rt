@@ -2,9 +2,8 @@
 #![tactic(auto)]
 
 ghost use Rattle.std.specs.Prelude.{◌≡◌};
-ghost use Rattle.plan_format.specs.Plan.{refused};
-ghost use Rattle.plan_format.specs.Reading.{read_of};
-ghost use Rattle.plan_format.specs.Refusals.{number_of};
+ghost use Rattle.plan_format.specs.Kinds.{kind_of};
+ghost use Rattle.plan_format.specs.Refusals.{number_of, read_by};
 
 // A lane by its number, and a road by its number: neither stands for the other, nor for a row of a table.
 #[repr(C)]
@@ -59,9 +58,39 @@ impl Refusal {
     }
 }
 
+// What a record is.
+#[derive(Clone, Copy, Debug, PartialEq, Eq)]
+pub enum Kind {
+    Lane,
+    Link,
+    Section,
+    Place,
+    Route,
+    Advance,
+    Beside,
+}
+
+impl Kind {
+    // The kind with this number.
+    pub fn of(number: usize) -> Option<Kind>
+        ensures { result ≡ kind_of number }
+    {
+        match number {
+            1 => Some(Kind::Lane),
+            2 => Some(Kind::Link),
+            3 => Some(Kind::Section),
+            4 => Some(Kind::Place),
+            16 => Some(Kind::Route),
+            17 => Some(Kind::Advance),
+            18 => Some(Kind::Beside),
+            _ => None,
+        }
+    }
+}
+
 // How many entries of each kind a plan has.
 #[repr(C)]
-#[derive(Clone, Copy)]
+#[derive(Clone, Copy, Default)]
 pub struct Counts {
     pub lanes: usize,
     pub points: usize,
@@ -79,6 +108,21 @@ pub struct Read {
     pub counts: Counts,
 }
 
+// For C.
+impl From<Result<Counts, Refusal>> for Read {
+    fn from(answer: Result<Counts, Refusal>) -> Read
+        ensures { result ≡ read_by answer }
+    {
+        match answer {
+            Ok(counts) => Read { number: 0, counts },
+            Err(refusal) => Read {
+                number: refusal.number(),
+                counts: Counts::default(),
+            },
+        }
+    }
+}
+
 // A query record of the file.
 #[derive(Clone, Copy)]
 pub enum Query {
@@ -86,30 +130,6 @@ pub enum Query {
     Route(f32, f32, f32, f32, f32, f32),
     // lane, s, offset, distance
     Advance(LaneId, f64, f64, f64),
-    // lane, s, side: 0 left, 1 right
+    // lane, s, side: 0 left, 1 right, a number as in the call beside
     Beside(LaneId, f64, usize),
-}
-
-// The next query record, with the place after it; or none.
-#[derive(Clone, Copy)]
-pub enum NextQuery {
-    Found(Query, usize),
-    End,
-}
-
-// The answer of a refusal.
-pub fn refused(n: usize) -> Read
-    ensures { result ≡ read_of (refused n) }
-{
-    Read {
-        number: n,
-        counts: Counts {
-            lanes: 0,
-            points: 0,
-            links: 0,
-            sections: 0,
-            stations: 0,
-            places: 0,
-        },
-    }
 }

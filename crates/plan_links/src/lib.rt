@@ -78,6 +78,7 @@ impl<'a> Links<'a> {
     }
 
     // The links of each lane in turn, and its fan. `placed` has the row of the place of each lane number.
+    // A fan, which is for C, has 256 for no place.
     fn group(&self, lanes: &[usize], placed: &[u16], out: &mut [usize], fans: &mut [usize])
         requires { Listed self.now.file.now lanes.now 256
             × (length placed.now ≡ 65536)

@@ -1,5 +1,5 @@
 -- Asking for the next query again and again gives the queries of an accepted plan, in file order, then the end.
-use Rattle.std.specs.Prelude.{Bool, cond, ◌||◌, List, [], map, ◌++◌, ◌∷◌, ◌≡◌, eqb, leb, ltb, length}
+use Rattle.std.specs.Prelude.{Bool, Some, None, cond, ◌||◌, List, [], map, ◌++◌, ◌∷◌, ◌≡◌, eqb, leb, ltb, length}
 use Rattle.std.proofs.Math.Bool.{false, true}
 use Rattle.std.proofs.Common.{append_assoc, append-nil, ap, subst, sym, ◌∙◌, arith}
 use Rattle.std.proofs.Math.Path.{refl}
@@ -12,14 +12,13 @@ use Rattle.plan_format.specs.Plan.{Plan, Starts, accepted, counts_of, decode, en
 use Rattle.plan_format.specs.Plan.{walk, walked, with_lane, with_link, with_place, with_query, with_record, with_section}
 use Rattle.plan_format.specs.Queries.{first_query, is_query, next_query, whole}
 use Rattle.plan_format.specs.Records.{query_at}
-use Rattle.plan_format.specs.declared.NextQuery.TheVariants.{End, Found}
 use Rattle.plan_format.specs.declared.Query.{Query}
 use Rattle.plan_queries.specs.Seeking.{seek_end, seek_found, seek_next, seek_start, whole_room}
-use Rattle.plan_scan.specs.Scan.{Passes, passed_by}
+use Rattle.plan_scan.specs.Scan.{Passes, passed}
 
 pub data Follows (s : List ℕ) : ℕ → List Query → Type 0 where
-  done : (at : ℕ) → next_query s at ≡ End → Follows s at []
-  then : (at next : ℕ) (q : Query) (qs : List Query) → next_query s at ≡ Found q next → Follows s next qs → Follows s at (q ∷ qs)
+  done : (at : ℕ) → next_query s at ≡ None → Follows s at []
+  then : (at next : ℕ) (q : Query) (qs : List Query) → next_query s at ≡ Some (q, next) → Follows s next qs → Follows s at (q ∷ qs)
 
 -- from a place with the same next query
 same_follows : (s : List ℕ) (at next : ℕ) (qs : List Query) → next_query s at ≡ next_query s next → Follows s next qs → Follows s at qs
@@ -34,7 +33,7 @@ fuel_step : (k m : ℕ) (s : List ℕ) (at : ℕ) → whole s at ≡ true
 unfolding first_query
 fuel_step k m s at w e = rw (w, e)
 
-fuel_none : (k : ℕ) (s : List ℕ) (at : ℕ) → whole s at ≡ false → first_query k (whole s at) s at ≡ End
+fuel_none : (k : ℕ) (s : List ℕ) (at : ℕ) → whole s at ≡ false → first_query k (whole s at) s at ≡ None
 unfolding first_query
 fuel_none zero s at e = refl
 fuel_none (suc k) s at e = rw e
@@ -152,7 +151,7 @@ module _ (s : List ℕ) (b : Starts) where
   rest_step k at a go h false z e f p = rest_end at a (ltb-false at (length s) e) p
   rest_step k at a go h true true e f p =
       let v = eqb-true (record_number s at (counts_of a)) 0 f in
-      let P = passed_by s at (counts_of a) (record_number s at (counts_of a)) refl v in
+      let P = passed s at (counts_of a) v in
       rest_one at a P.ok
       (go (at + 6 + u32_at s at) (with_record at (u16_at s (at + 4)) (items_at s at (u16_at s (at + 4))) a) (omega arith)
       (simp f at p))

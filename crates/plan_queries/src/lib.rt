@@ -1,82 +1,108 @@
 // The queries of a plan file one by one, in file order.
 #![tactic(auto)]
 
-ghost use Rattle.std.specs.Prelude.{◌≡◌, true, ◌+◌, ◌≤◌, length};
-ghost use Rattle.fields.specs.Fields.{u16_at};
+ghost use Rattle.std.specs.Prelude.{◌≡◌, false, true, ◌+◌, ◌≤◌, length, MatchOption};
+ghost use Rattle.fields.specs.Fields.{u16_at, u32_at};
+ghost use Rattle.plan_format.specs.Kinds.{kind_number};
 ghost use Rattle.plan_format.specs.Plan.{fits};
 ghost use Rattle.plan_format.specs.Queries.{is_query, whole, next_query};
-ghost use Rattle.plan_format.specs.Records.{query_at};
+ghost use Rattle.plan_format.specs.Records.{advance_at, beside_at, query_at, route_at};
 
 use fields::{f32_at, f64_at, u8_at, u16_at, u32_at};
-use plan_format::{LaneId, NextQuery, Query};
+use plan_format::{Kind, LaneId, Query};
 use plan_scan::size_fits;
 
-fn is_query(kind: usize) -> bool
-    ensures { result ≡ is_query kind }
+// The kind with this number, where it is a query's.
+fn query_kind(number: usize) -> Option<Kind>
+    ensures { MatchOption result (is_query number ≡ false) (λ kind. (kind_number kind ≡ number) × (is_query number ≡ true)) }
 {
-    if kind == 16 {
-        return true;
+    match number {
+        16 => Some(Kind::Route),
+        17 => Some(Kind::Advance),
+        18 => Some(Kind::Beside),
+        _ => None,
     }
-    if kind == 17 {
-        return true;
-    }
-    kind == 18
 }
 
-// Whether a whole record starts at `at`.
-fn is_whole(file: &[u8], at: usize) -> bool
-    ensures { result ≡ whole file.now at }
+// How long the payload of the record at `at` is, where a whole record starts there.
+fn size_at(file: &[u8], at: usize) -> Option<usize>
+    ensures { MatchOption result (whole file.now at ≡ false)
+        (λ size. (size ≡ u32_at file.now at) × (whole file.now at ≡ true) × (at + 6 + size ≤ length file.now)) }
 {
-    if file.len() < 6 {
-        return false;
+    let room = file.len().checked_sub(6)?.checked_sub(at)?;
+    let size = u32_at(file, at);
+    if room < size {
+        return None;
     }
-    if file.len() - 6 < at {
-        return false;
-    }
-    u32_at(file, at) <= file.len() - 6 - at
+    Some(size)
+}
+
+fn route_at(file: &[u8], at: usize) -> Query
+    requires { at + 30 ≤ length file.now }
+    ensures { result ≡ route_at file.now at }
+{
+    Query::Route(
+        f32_at(file, at + 6),
+        f32_at(file, at + 10),
+        f32_at(file, at + 14),
+        f32_at(file, at + 18),
+        f32_at(file, at + 22),
+        f32_at(file, at + 26),
+    )
+}
+
+fn advance_at(file: &[u8], at: usize) -> Query
+    requires { at + 32 ≤ length file.now }
+    ensures { result ≡ advance_at file.now at }
+{
+    Query::Advance(
+        LaneId(u16_at(file, at + 6)),
+        f64_at(file, at + 8),
+        f64_at(file, at + 16),
+        f64_at(file, at + 24),
+    )
+}
+
+fn beside_at(file: &[u8], at: usize) -> Query
+    requires { at + 17 ≤ length file.now }
+    ensures { result ≡ beside_at file.now at }
+{
+    Query::Beside(
+        LaneId(u16_at(file, at + 6)),
+        f64_at(file, at + 8),
+        u8_at(file, at + 16),
+    )
 }
 
 // The query of a record whose length fits.
-fn query_at(file: &[u8], at: usize, kind: usize, size: usize) -> Query
+fn query_at(file: &[u8], at: usize, kind: Kind, size: usize) -> Query
     requires { (at + 6 + size ≤ length file.now)
-        × (kind ≡ u16_at file.now (at + 4))
-        × (fits file.now at kind size ≡ true)
-        × (is_query kind ≡ true) }
+        × (kind_number kind ≡ u16_at file.now (at + 4))
+        × (fits file.now at (kind_number kind) size ≡ true)
+        × (is_query (kind_number kind) ≡ true) }
     ensures { result ≡ query_at file.now at }
 {
-    if kind == 16 {
-        return Query::Route(
-            f32_at(file, at + 6),
-            f32_at(file, at + 10),
-            f32_at(file, at + 14),
-            f32_at(file, at + 18),
-            f32_at(file, at + 22),
-            f32_at(file, at + 26),
-        );
+    match kind {
+        Kind::Route => route_at(file, at),
+        Kind::Advance => advance_at(file, at),
+        _ => beside_at(file, at),
     }
-    let lane = LaneId(u16_at(file, at + 6));
-    let s = f64_at(file, at + 8);
-    if kind == 17 {
-        return Query::Advance(lane, s, f64_at(file, at + 16), f64_at(file, at + 24));
-    }
-    Query::Beside(lane, s, u8_at(file, at + 16))
 }
 
 // The first query from `first` on, with the place after it; of any bytes, the walk ends where no whole record follows.
-pub fn next_query(file: &[u8], first: usize) -> NextQuery
+pub fn next_query(file: &[u8], first: usize) -> Option<(Query, usize)>
     ensures { result ≡ next_query file.now first }
 {
     let mut at = first;
-    while is_whole(file, at) {
-        let size = u32_at(file, at);
-        let kind = u16_at(file, at + 4);
-        if is_query(kind) {
-            if size_fits(file, at, kind, size) {
-                return NextQuery::Found(query_at(file, at, kind, size), at + 6 + size);
+    while let Some(size) = size_at(file, at) {
+        let next = at + 6 + size;
+        match query_kind(u16_at(file, at + 4)) {
+            None => at = next,
+            Some(kind) if size_fits(file, at, kind, size) => {
+                return Some((query_at(file, at, kind, size), next));
             }
-            return NextQuery::End;
+            Some(_) => return None,
         }
-        at = at + 6 + size;
     }
-    NextQuery::End
+    None
 }

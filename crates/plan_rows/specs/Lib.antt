@@ -1,2 +1,3 @@
--- Laws that the proofs of plan_rows cite.
+-- The definitions that the contracts of plan_rows cite, and laws that its proofs cite.
+pub mod Counted
 pub mod Runs

@@ -1,19 +1,15 @@
 -- Laws of runs of floats that are copied from the file, and of the lengths of rows.
 use Rattle.std.specs.Prelude.{Bool, cond, false, true, List, [], map, ◌∷◌, ◌≡◌, eqb, Float, drop, get_or, length, replicate, set, take}
 use Rattle.std.proofs.Math.Path.{ap, refl}
-use Rattle.std.proofs.Common.{sym, ◌∙◌, length-append, eq-eqb, ne_eqb, append_assoc}
+use Rattle.std.proofs.Common.{sym, ◌∙◌, length-append, eq-eqb, ne_eqb}
 use Prim.Native.Nat.{suc, zero, ℕ, ◌*◌, ◌+◌, ◌-◌, ◌<◌, ◌≤◌}
 use Rattle.std.proofs.Math.Numerals.{add-one}
 use native.Mathlib.Omega.{arith}
 use Rattle.std.specs.Float.{binary32}
 use Rattle.std.specs.Float.Ieee.{of_bits}
-use Rattle.std.proofs.lemmas.List.{drop-drop}
-use Rattle.std.proofs.lemmas.List.Edits.{sets, sets-eq}
-use borrow.Rule.Slice.PartMut.{put_mid}
+use Rattle.std.proofs.lemmas.List.Edits.{sets}
 use Rattle.fields.specs.Fields.{f32_at, f64_at, u16_at, u8_at}
 use Rattle.plan_format.specs.Laws.{drop_next}
-use Rattle.lists.specs.Filling.{Filling, fill_length}
-use Rattle.plan_format.specs.Rows.{rows_next, rows_room}
 use Rattle.plan_format.specs.Plan.{index_of, plan_of}
 use Rattle.plan_format.specs.Records.{doubles, floats, lane_at, place_at, raised_at, run, section_at}
 use Rattle.plan_format.specs.Tables.{bound_row, end_row, place_row, point_row, rows, station_row}
@@ -40,22 +36,28 @@ module _ (read : List ℕ → ℕ → Float) (width : ℕ) (s : List ℕ) where
   run_done out at k zero h = refl
   run_done out at k (suc n) h = absurd (omega arith)
 
-  -- values that are each read where the run has them
-  pub run_is : (vs : List Float) (at n : ℕ) → ((i : ℕ) (d : Float) → i < length vs → get_or vs i d ≡ read s (at + width * i)) → length vs ≡ n
-      → vs ≡ run read width s at n
+  pub run_at : (at n i : ℕ) (d : Float) → i < n → get_or (run read width s at n) i d ≡ read s (at + width * i)
   unfolding run
-  run_is [] at zero h e = refl
-  run_is [] at (suc n) h e = absurd (omega arith)
-  run_is (v ∷ vs) at zero h e = absurd (omega arith)
-  run_is (v ∷ vs) at (suc n) h e =
-      let here = h 0 v (omega arith) in
-      let z : at + width * 0 ≡ at = omega arith in
-      let later =
-      run_is vs (at + width) n
-      (λ (i : ℕ) (d : Float) (l : i < length vs).
-      let y : at + width * suc i ≡ at + width + width * i = omega arith in rw y at (h (suc i) d (omega arith)))
-      (omega arith) in
-      rw (here, z, ← later) refl
+  run_at at zero i d h = absurd (omega arith)
+  run_at at (suc n) zero d h = let z : at + width * 0 ≡ at = omega arith in rw z
+  run_at at (suc n) (suc i) d h =
+      let z : at + width * suc i ≡ at + width + width * i = omega arith in
+      rw z (run_at (at + width) n i d (omega arith))
+
+-- the points of a lane, the stations of a section
+module _ (s : List ℕ) (p : ℕ) where
+  pub point_count : length (point_row (lane_at s p)) ≡ 3 * u16_at s (p + 11)
+  point_count = run_length f32_at 4 s (p + 13) (3 * u16_at s (p + 11))
+
+  pub point_at : (i : ℕ) (d : Float) → i < length (point_row (lane_at s p)) → get_or (point_row (lane_at s p)) i d ≡ f32_at s (p + 13 + 4 * i)
+  point_at i d h = run_at f32_at 4 s (p + 13) (3 * u16_at s (p + 11)) i d (omega (arith, point_count))
+
+  pub station_count : length (station_row (section_at s p)) ≡ u16_at s (p + 26)
+  station_count = run_length f64_at 8 s (p + 28) (u16_at s (p + 26))
+
+  pub station_at : (i : ℕ) (d : Float) → i < length (station_row (section_at s p))
+      → get_or (station_row (section_at s p)) i d ≡ f64_at s (p + 28 + 8 * i)
+  station_at i d h = run_at f64_at 8 s (p + 28) (u16_at s (p + 26)) i d (omega (arith, station_count))
 
 pub points_length : (s qs : List ℕ) → length (rows point_row (map (lane_at s) qs)) ≡ 3 * total s 11 qs
 unfolding rows total
@@ -74,24 +76,6 @@ stations_length s (q ∷ qs) =
     let f = run_length f64_at 8 s (q + 28) (u16_at s (q + 26)) in
     let r = stations_length s qs in
     omega arith
-
--- where the next points or stations end
-module _ (s qs : List ℕ) (i : ℕ) (old out : List Float) (k : ℕ) (h : i < length qs) where
-  pub points_room : Filling Float old out k (rows point_row (map (lane_at s) (drop i qs))) (rows point_row (map (lane_at s) qs))
-      → k + 3 * u16_at s (get_or qs i 0 + 11) ≤ 3 * total s 11 qs
-  points_room F =
-      let room = rows_room point_row (lane_at s) qs i old out k F h in
-      let long = run_length f32_at 4 s (get_or qs i 0 + 13) (3 * u16_at s (get_or qs i 0 + 11)) in
-      let all = points_length s qs in
-      omega arith
-
-  pub stations_room : Filling Float old out k (rows station_row (map (section_at s) (drop i qs))) (rows station_row (map (section_at s) qs))
-      → k + u16_at s (get_or qs i 0 + 26) ≤ total s 26 qs
-  stations_room F =
-      let room = rows_room station_row (section_at s) qs i old out k F h in
-      let long = run_length f64_at 8 s (get_or qs i 0 + 28) (u16_at s (get_or qs i 0 + 26)) in
-      let all = stations_length s qs in
-      omega arith
 
 -- the row of ends: six zeros, or the two tangents
 pub end_length : (s : List ℕ) (at : ℕ) → length (end_row (lane_at s at)) ≡ 6
@@ -128,23 +112,6 @@ pub row_next : (row out : List ℕ) (start i : ℕ) → i < length row
 row_next row out start i h =
     let e : start + (i + 1) ≡ suc (start + i) = omega arith in
     rw (e, drop_next row i 0 h)
-
--- a part of a table that is written: k entries from the a-th on
-pub part_is : {A : Type 0} (a k : ℕ) (old now vs : List A) → now ≡ vs → length vs ≡ k → a + k ≤ length old → put_mid a k old now ≡ sets old a vs
-part_is {A} a k old now vs e n h =
-    let z : a + length vs ≤ length old = omega arith in
-    let d : drop k (drop a old) ≡ drop (a + length vs) old = drop-drop k a old ∙ ap (λ (j : ℕ). drop (a + j) old) (sym n) in
-    rw (e, sets-eq vs old a z, d, append_assoc (take a old) vs (drop (a + length vs) old)) refl
-
--- the next row of floats is copied into its part of the table
-module _ {X : Type 0} (row : X → List Float) (at : ℕ → X) (ps : List ℕ) (i : ℕ) (old out : List Float) (k : ℕ)
-    (F : Filling Float old out k (rows row (map at (drop i ps))) (rows row (map at ps))) (h : i < length ps) where
-  pub copied : (m n : ℕ) (now : List Float) → now ≡ row (at (get_or ps i 0)) → length now ≡ n → m ≡ n → k + n ≤ length old
-      → Filling Float old (put_mid k m out now) (k + n) (rows row (map at (drop (i + 1) ps))) (rows row (map at ps))
-  copied m n now e l z room =
-      let size = fill_length Float old out k (rows row (map at (drop i ps))) (rows row (map at ps)) F (omega arith) in
-      let w = part_is k m out now (row (at (get_or ps i 0))) e (sym (ap length e) ∙ l ∙ sym z) (omega arith) in
-      rows_next row at ps i old out k F h (put_mid k m out now) n w (sym (ap length e) ∙ l) room
 
 -- start and end of a section stand one after the other
 pub bounds_are : (s : List ℕ) (at : ℕ) → doubles s (at + 10) 2 ≡ bound_row (section_at s at)

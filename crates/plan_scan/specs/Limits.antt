@@ -1,6 +1,7 @@
--- Counts within the limits, with one record more, and where the start of a record is kept.
-use Rattle.std.specs.Prelude.{Bool, cond, false, true, ◌&&◌, ◌≡◌, ℕ, ◌+◌, ◌<◌, ◌≤◌, eqb, leb}
+-- Counts within the limits, and with one record more.
+use Rattle.std.specs.Prelude.{cond, true, ◌&&◌, ◌≡◌, ℕ, ◌+◌, ◌<◌, ◌≤◌, eqb, leb}
 use Rattle.std.proofs.Common.{arith, leb-true}
+use Rattle.plan_format.specs.Laws.{and_fst, and_snd}
 use Rattle.plan_format.specs.Plan.{within}
 use Rattle.plan_format.specs.declared.Counts.{Counts}
 
@@ -25,23 +26,26 @@ more kind n c =
     (cond (eqb kind 3) (counts_with c.lanes c.points c.links (c.sections + 1) (c.stations + n) c.places)
     (cond (eqb kind 4) (counts_with c.lanes c.points c.links c.sections c.stations (c.places + 1)) c)))
 
--- where its start is kept: 256 lanes, 2,048 links, 64 sections, 256 places, and one entry for what is not kept
-abbrev pub slot_of : ℕ → Counts → ℕ
-slot_of kind c =
-    cond (eqb kind 1) c.lanes
-    (cond (eqb kind 2) (256 + c.links) (cond (eqb kind 3) (2304 + c.sections) (cond (eqb kind 4) (2368 + c.places) 2624)))
+-- what keeping within the limits says, kind by kind
+module _ (kind n : ℕ) (c : Counts) (w : within kind n c ≡ true) where
+  pub lane_within : kind ≡ 1 → (c.lanes < 256) × (c.points + n ≤ 4096)
+  unfolding within
+  lane_within e =
+      let r : (leb (c.lanes + 1) 256 && leb (c.points + n) 4096) ≡ true = rw e at w in
+      let l = leb-true (c.lanes + 1) 256 (and_fst _ _ r) in
+      (omega arith, leb-true (c.points + n) 4096 (and_snd (leb (c.lanes + 1) 256) _ r))
 
-pub slot_below : (kind n : ℕ) (c : Counts) → Limited c → within kind n c ≡ true → slot_of kind c < 2625
-unfolding within
-slot_below kind n c L w = go (eqb kind 1) (eqb kind 2) (eqb kind 3) (eqb kind 4) w
-  where
-    go : (b₁ b₂ b₃ b₄ : Bool)
-        → cond b₁ (leb (c.lanes + 1) 256 && leb (c.points + n) 4096)
-        (cond b₂ (leb (c.links + 1) 2048)
-        (cond b₃ (leb (c.sections + 1) 64 && leb (c.stations + n) 4096) (cond b₄ (leb (c.places + 1) 256) true))) ≡ true
-        → cond b₁ c.lanes (cond b₂ (256 + c.links) (cond b₃ (2304 + c.sections) (cond b₄ (2368 + c.places) 2624))) < 2625
-    go true b₂ b₃ b₄ w = omega (arith, L.lanes)
-    go false true b₃ b₄ w = omega (arith, L.links)
-    go false false true b₄ w = omega (arith, L.sections)
-    go false false false true w = let l = leb-true (c.places + 1) 256 w in omega arith
-    go false false false false w = omega arith
+  pub link_within : kind ≡ 2 → c.links < 2048
+  unfolding within
+  link_within e = let l = leb-true (c.links + 1) 2048 (rw e at w) in omega arith
+
+  pub section_within : kind ≡ 3 → (c.sections < 64) × (c.stations + n ≤ 4096)
+  unfolding within
+  section_within e =
+      let r : (leb (c.sections + 1) 64 && leb (c.stations + n) 4096) ≡ true = rw e at w in
+      let l = leb-true (c.sections + 1) 64 (and_fst _ _ r) in
+      (omega arith, leb-true (c.stations + n) 4096 (and_snd (leb (c.sections + 1) 64) _ r))
+
+  pub place_within : kind ≡ 4 → c.places < 256
+  unfolding within
+  place_within e = let l = leb-true (c.places + 1) 256 (rw e at w) in omega arith

@@ -1,8 +1,9 @@
 -- Laws of the tests that go over a run of floats, one for each branch of the code.
 use Rattle.std.specs.Prelude.{Bool, false, true, ◌&&◌, List, ◌≡◌, Float}
 use Rattle.std.proofs.Math.Bool.{and_assoc}
-use Rattle.std.proofs.Math.Path.{refl}
-use Prim.Native.Nat.{suc, zero, ℕ, ◌+◌, ◌-◌, ◌<◌, ◌≤◌}
+use Rattle.std.proofs.Math.Path.{ap, refl}
+use Rattle.std.specs.List.{list_all, range_with_len}
+use Prim.Native.Nat.{suc, zero, ℕ, ◌*◌, ◌+◌, ◌-◌, ◌<◌, ◌≤◌}
 use native.Mathlib.Omega.{arith}
 use Rattle.std.specs.Float.Ieee.{lt}
 use Rattle.fields.specs.Fields.{f64_at}
@@ -26,6 +27,22 @@ module _ (test : Float → Bool) (read : List ℕ → ℕ → Float) (width : �
   unfolding every run
   every_good zero h e = absurd (omega arith)
   every_good (suc n) h e = let z : suc n - 1 ≡ n = omega arith in rw (z, e)
+
+-- a test of the floats one by one, by their places
+every_run : (test : Float → Bool) (read : List ℕ → ℕ → Float) (width : ℕ) (s : List ℕ) (first j n : ℕ)
+    → list_all (λ k. test (read s (first + width * k))) (range_with_len j n) ≡ every test (run read width s (first + width * j) n)
+unfolding every run
+every_run test read width s first j zero = refl
+every_run test read width s first j (suc n) =
+    let next : first + width * (j + 1) ≡ first + width * j + width = omega arith in
+    let r = every_run test read width s first (j + 1) n in
+    ap (λ (b : Bool). test (read s (first + width * j)) && b) (rw next at r)
+
+pub every_placed : (test : Float → Bool) (read : List ℕ → ℕ → Float) (width : ℕ) (s : List ℕ) (first n : ℕ)
+    → list_all (λ k. test (read s (first + width * k))) (range_with_len 0 n) ≡ every test (run read width s first n)
+every_placed test read width s first n =
+    let zero_on : first + width * 0 ≡ first = omega arith in
+    rw zero_on at (every_run test read width s first 0 n)
 
 -- stations that rise from `last` on
 abbrev pub rising : Float → List Float → Bool
@@ -52,8 +69,8 @@ module _ (s : List ℕ) (at : ℕ) (last : Float) where
   rising_good zero h e f = absurd (omega arith)
   rising_good (suc n) h e f = let z : suc n - 1 ≡ n = omega arith in rw (z, e, f)
 
--- the stations of a section of two or more: the first, then those that rise from it on
-pub stations_split : (s : List ℕ) (at n : ℕ) → 2 ≤ n
+-- the stations of a section of one or more: the first, then those that rise from it on
+pub stations_split : (s : List ℕ) (at n : ℕ) → 0 < n
     → (every station (doubles s at n) && rises (doubles s at n)) ≡ (station (f64_at s at) && rising (f64_at s at) (doubles s (at + 8) (n - 1)))
 unfolding every rises run
 stations_split s at zero h = absurd (omega arith)

@@ -1,16 +1,21 @@
 // The records of a plan file one by one: numbers 3 to 6, the counts, and where each record starts.
 #![tactic(auto)]
 
-ghost use Rattle.std.specs.Prelude.{◌≡◌, true, ◌&&◌, ◌+◌, ◌*◌, ◌≤◌, ◌<◌, length};
+ghost use Rattle.std.specs.Prelude.{◌≡◌, true, ◌&&◌, ◌+◌, ◌*◌, ◌≤◌, ◌<◌, length, IfOk};
 ghost use Rattle.fields.specs.Fields.{u16_at};
+ghost use Rattle.plan_format.specs.Kinds.{kind_number};
 ghost use Rattle.plan_format.specs.Records.{floats, doubles, lane_at, section_at};
-ghost use Rattle.plan_format.specs.Plan.{coordinate, station, every, rises_from, lane_fits, section_fits, fits, lane_range};
-ghost use Rattle.plan_format.specs.Plan.{section_range, in_range, items_at, within, record_number, walked};
-ghost use Rattle.plan_scan.specs.Limits.{Limited, more, slot_of};
-ghost use Rattle.plan_scan.specs.Scan.{Scanned};
+ghost use Rattle.plan_format.specs.Plan.{coordinate, station, every, rises_from, rises, lane_fits, section_fits, fits, lane_range};
+ghost use Rattle.plan_format.specs.Plan.{section_range, in_range, items_at, record_number, walked};
+ghost use Rattle.plan_format.specs.Refusals.{found_number, read_by};
+ghost use Rattle.plan_scan.specs.Scan.{Reads, Scanned, counts_in};
 
 use fields::{f32_at, f64_at, u8_at, u16_at, u32_at};
-use plan_format::{Counts, Read, refused};
+use plan_format::{Counts, Kind, Refusal};
+use starts::Record;
+pub use starts::RecordStarts;
+
+mod starts;
 
 const LOW: f32 = -4096.0;
 
@@ -31,16 +36,7 @@ fn are_coordinates(file: &[u8], first: usize, n: usize) -> bool
     requires { (first + 4 * n ≤ length file.now) × (n < 1000000) }
     ensures { result ≡ every coordinate (floats file.now first n) }
 {
-    let mut at = first;
-    let mut left = n;
-    while 0 < left {
-        if !is_coordinate(f32_at(file, at)) {
-            return false;
-        }
-        at += 4;
-        left -= 1;
-    }
-    true
+    (0..n).all(|k| is_coordinate(f32_at(file, first + 4 * k)))
 }
 
 // Whether the n floats from `first` on are stations, and rise from `below` on.
@@ -48,11 +44,9 @@ fn are_rising(file: &[u8], first: usize, below: f64, n: usize) -> bool
     requires { (first + 8 * n ≤ length file.now) × (n < 1000000) }
     ensures { result ≡ (every station (doubles file.now first n) && rises_from below (doubles file.now first n)) }
 {
-    let mut at = first;
     let mut last = below;
-    let mut left = n;
-    while 0 < left {
-        let x = f64_at(file, at);
+    for k in 0..n {
+        let x = f64_at(file, first + 8 * k);
         if !is_station(x) {
             return false;
         }
@@ -60,13 +54,24 @@ fn are_rising(file: &[u8], first: usize, below: f64, n: usize) -> bool
             return false;
         }
         last = x;
-        at += 8;
-        left -= 1;
     }
     true
 }
 
+// Whether the n floats from `first` on are stations, and rise.
+fn are_stations(file: &[u8], first: usize, n: usize) -> bool
+    requires { (first + 8 * n ≤ length file.now) × (n < 1000000) }
+    ensures { result ≡ (every station (doubles file.now first n) && rises (doubles file.now first n)) }
+{
+    if n == 0 {
+        return true;
+    }
+    let x = f64_at(file, first);
+    is_station(x) && are_rising(file, first + 8, x, n - 1)
+}
+
 // Number 4 for a lane: its count and its ends say how long it is.
+#[tactic(auto, unfolding(plan_format::specs::Plan::lane_fits))]
 fn lane_fits(file: &[u8], at: usize, size: usize) -> bool
     requires { at + 6 + size ≤ length file.now }
     ensures { result ≡ lane_fits file.now at size }
@@ -74,257 +79,132 @@ fn lane_fits(file: &[u8], at: usize, size: usize) -> bool
     if size < 7 {
         return false;
     }
-    let n = u16_at(file, at + 11);
-    if u8_at(file, at + 10) == 0 {
-        return size == 7 + 12 * n;
-    }
-    size == 7 + 12 * n + 24
+    let tangents = if u8_at(file, at + 10) == 0 { 0 } else { 24 };
+    size == 7 + 12 * u16_at(file, at + 11) + tangents
 }
 
+#[tactic(auto, unfolding(plan_format::specs::Plan::section_fits))]
 fn section_fits(file: &[u8], at: usize, size: usize) -> bool
     requires { at + 6 + size ≤ length file.now }
     ensures { result ≡ section_fits file.now at size }
 {
-    if size < 22 {
-        return false;
-    }
-    size == 22 + 8 * u16_at(file, at + 26)
+    22 <= size && size == 22 + 8 * u16_at(file, at + 26)
 }
 
 // Number 4: whether a payload's length fits its kind.
-pub fn size_fits(file: &[u8], at: usize, kind: usize, size: usize) -> bool
+#[tactic(auto, unfolding(plan_format::specs::Plan::fits))]
+pub fn size_fits(file: &[u8], at: usize, kind: Kind, size: usize) -> bool
     requires { at + 6 + size ≤ length file.now }
-    ensures { result ≡ fits file.now at kind size }
+    ensures { result ≡ fits file.now at (kind_number kind) size }
 {
-    if kind == 1 {
-        return lane_fits(file, at, size);
+    match kind {
+        Kind::Lane => lane_fits(file, at, size),
+        Kind::Link => size == 5,
+        Kind::Section => section_fits(file, at, size),
+        Kind::Place => size == 10,
+        Kind::Route => size == 24,
+        Kind::Advance => size == 26,
+        Kind::Beside => size == 11,
     }
-    if kind == 2 {
-        return size == 5;
-    }
-    if kind == 3 {
-        return section_fits(file, at, size);
-    }
-    if kind == 4 {
-        return size == 10;
-    }
-    if kind == 16 {
-        return size == 24;
-    }
-    if kind == 17 {
-        return size == 26;
-    }
-    if kind == 18 {
-        return size == 11;
-    }
-    false
 }
 
 // Number 5 for a lane.
+#[tactic(auto, unfolding(plan_format::specs::Plan::lane_range))]
 fn lane_in_range(file: &[u8], at: usize) -> bool
     requires { at + 13 + 12 * u16_at file.now (at + 11) ≤ length file.now }
     ensures { result ≡ lane_range (lane_at file.now at) }
 {
-    if 27 < u8_at(file, at + 8) {
-        return false;
-    }
-    if 2 < u8_at(file, at + 9) {
-        return false;
-    }
-    if 1 < u8_at(file, at + 10) {
-        return false;
-    }
     let n = u16_at(file, at + 11);
-    if n < 2 {
-        return false;
-    }
-    are_coordinates(file, at + 13, 3 * n)
+    u8_at(file, at + 8) <= 27
+        && u8_at(file, at + 9) <= 2
+        && u8_at(file, at + 10) <= 1
+        && 2 <= n
+        && are_coordinates(file, at + 13, 3 * n)
 }
 
 // Number 5 for a section.
+#[tactic(auto, unfolding(plan_format::specs::Plan::section_range))]
 fn section_in_range(file: &[u8], at: usize) -> bool
     requires { at + 28 + 8 * u16_at file.now (at + 26) ≤ length file.now }
     ensures { result ≡ section_range (section_at file.now at) }
 {
     let start = f64_at(file, at + 10);
     let end = f64_at(file, at + 18);
-    if !is_station(start) {
-        return false;
-    }
-    if !is_station(end) {
-        return false;
-    }
-    if !(start <= end) {
-        return false;
-    }
     let n = u16_at(file, at + 26);
-    if n < 2 {
-        return false;
-    }
-    let first = f64_at(file, at + 28);
-    if !is_station(first) {
-        return false;
-    }
-    are_rising(file, at + 36, first, n - 1)
+    is_station(start) && is_station(end) && start <= end && 2 <= n && are_stations(file, at + 28, n)
 }
 
 // Number 5: whether the fields of a record whose length fits are in their ranges.
-fn fields_in_range(file: &[u8], at: usize, kind: usize, size: usize) -> bool
-    requires { (at + 6 + size ≤ length file.now) × (fits file.now at kind size ≡ true) }
-    ensures { result ≡ in_range file.now at kind }
+#[tactic(auto, unfolding(plan_format::specs::Plan::in_range))]
+fn fields_in_range(file: &[u8], at: usize, kind: Kind, size: usize) -> bool
+    requires { (at + 6 + size ≤ length file.now) × (fits file.now at (kind_number kind) size ≡ true) }
+    ensures { result ≡ in_range file.now at (kind_number kind) }
 {
-    if kind == 1 {
-        return lane_in_range(file, at);
+    match kind {
+        Kind::Lane => lane_in_range(file, at),
+        Kind::Link => u8_at(file, at + 8) <= 2,
+        Kind::Section => section_in_range(file, at),
+        Kind::Beside => u8_at(file, at + 16) <= 1,
+        Kind::Place | Kind::Route | Kind::Advance => true,
     }
-    if kind == 2 {
-        return u8_at(file, at + 8) <= 2;
-    }
-    if kind == 3 {
-        return section_in_range(file, at);
-    }
-    if kind == 18 {
-        return u8_at(file, at + 16) <= 1;
-    }
-    true
 }
 
 // The points of a lane or the stations of a section.
-fn items(file: &[u8], at: usize, kind: usize, size: usize) -> usize
-    requires { (at + 6 + size ≤ length file.now) × (fits file.now at kind size ≡ true) }
-    ensures { (result ≡ items_at file.now at kind) × (result < 65536) }
+fn items_at(file: &[u8], at: usize, kind: Kind, size: usize) -> usize
+    requires { (at + 6 + size ≤ length file.now) × (fits file.now at (kind_number kind) size ≡ true) }
+    ensures { (result ≡ items_at file.now at (kind_number kind)) × (result < 65536) }
 {
-    if kind == 1 {
-        return u16_at(file, at + 11);
+    match kind {
+        Kind::Lane => u16_at(file, at + 11),
+        Kind::Section => u16_at(file, at + 26),
+        _ => 0,
     }
-    if kind == 3 {
-        return u16_at(file, at + 26);
-    }
-    0
 }
 
-// Number 6: whether one record more keeps within the limits.
-fn keeps_within(kind: usize, n: usize, c: Counts) -> bool
-    requires { (n < 65536) × Limited c }
-    ensures { result ≡ within kind n c }
-{
-    if kind == 1 {
-        return c.lanes + 1 <= 256 && c.points + n <= 4096;
-    }
-    if kind == 2 {
-        return c.links + 1 <= 2048;
-    }
-    if kind == 3 {
-        return c.sections + 1 <= 64 && c.stations + n <= 4096;
-    }
-    if kind == 4 {
-        return c.places + 1 <= 256;
-    }
-    true
-}
-
-// The number of the record at `at`: 0, or 3 to 6.
-fn record_number(file: &[u8], at: usize, c: Counts) -> usize
-    requires { (at ≤ length file.now) × (length file.now ≤ 65536) × Limited c }
-    ensures { result ≡ record_number file.now at c }
+// The record at `at`, after those of `starts`: numbers 3 to 6.
+fn record_at(file: &[u8], at: usize, starts: &RecordStarts) -> Result<Record, Refusal>
+    requires { (at ≤ length file.now) × (length file.now ≤ 65536) }
+    ensures number { found_number result ≡ record_number file.now at (counts_in starts.now) }
+    ensures read { IfOk result (Reads file.now at) }
 {
     if file.len() - at < 6 {
-        return 3;
+        return Err(Refusal::CutRecord);
     }
     let size = u32_at(file, at);
-    let kind = u16_at(file, at + 4);
     if file.len() - at - 6 < size {
-        return 3;
+        return Err(Refusal::CutRecord);
     }
+    let Some(kind) = Kind::of(u16_at(file, at + 4)) else {
+        return Err(Refusal::WrongLength);
+    };
     if !size_fits(file, at, kind, size) {
-        return 4;
+        return Err(Refusal::WrongLength);
     }
     if !fields_in_range(file, at, kind, size) {
-        return 5;
+        return Err(Refusal::OutOfRange);
     }
-    let n = items(file, at, kind, size);
-    if !keeps_within(kind, n, c) {
-        return 6;
+    let items = items_at(file, at, kind, size);
+    if !starts.keeps_within(kind, items) {
+        return Err(Refusal::OverLimit);
     }
-    0
+    Ok(Record {
+        kind,
+        items,
+        next: at + 6 + size,
+    })
 }
 
-// Where the start of one record more is kept.
-fn slot(kind: usize, c: Counts) -> usize
-    requires { Limited c }
-    ensures { result ≡ slot_of kind c }
+// The first refusal of a record, or the counts; then `starts` has where the records start.
+pub fn scan(file: &[u8], starts: &mut RecordStarts) -> Result<Counts, Refusal>
+    requires { length file.now ≤ 65536 }
+    ensures { Scanned file.now (walked file.now) (read_by result) starts.new }
 {
-    if kind == 1 {
-        return c.lanes;
-    }
-    if kind == 2 {
-        return 256 + c.links;
-    }
-    if kind == 3 {
-        return 2304 + c.sections;
-    }
-    if kind == 4 {
-        return 2368 + c.places;
-    }
-    2624
-}
-
-// The counts with one record more.
-fn grow(kind: usize, n: usize, c: Counts) -> Counts
-    requires { (n < 65536) × Limited c }
-    ensures { result ≡ more kind n c }
-{
-    let mut d = c;
-    if kind == 1 {
-        d.lanes = c.lanes + 1;
-        d.points = c.points + n;
-        return d;
-    }
-    if kind == 2 {
-        d.links = c.links + 1;
-        return d;
-    }
-    if kind == 3 {
-        d.sections = c.sections + 1;
-        d.stations = c.stations + n;
-        return d;
-    }
-    if kind == 4 {
-        d.places = c.places + 1;
-        return d;
-    }
-    d
-}
-
-// The number of the first record that has one, or 0 with the counts; then `starts` has where the records start:
-// lanes from 0 on, links from 256 on, sections from 2304 on, places from 2368 on.
-pub fn scan(file: &[u8], starts: &mut [usize]) -> Read
-    requires { (length file.now ≤ 65536) × (length starts.old ≡ 2625) }
-    ensures { Scanned file.now (walked file.now) result starts.new }
-{
-    let mut c = Counts {
-        lanes: 0,
-        points: 0,
-        links: 0,
-        sections: 0,
-        stations: 0,
-        places: 0,
-    };
+    starts.clear();
     let mut at = 0;
     while at < file.len() {
-        let v = record_number(file, at, c);
-        if v != 0 {
-            return refused(v);
-        }
-        let size = u32_at(file, at);
-        let kind = u16_at(file, at + 4);
-        let n = items(file, at, kind, size);
-        let k = slot(kind, c);
-        starts[k] = at;
-        c = grow(kind, n, c);
-        at = at + 6 + size;
+        let record = record_at(file, at, starts)?;
+        starts.add(at, record);
+        at = record.next;
     }
-    Read {
-        number: 0,
-        counts: c,
-    }
+    Ok(starts.counts())
 }

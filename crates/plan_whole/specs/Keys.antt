@@ -71,13 +71,13 @@ any_is test (x ∷ xs) = ap (λ (b : Bool). test x || b) (any_is test xs)
 
 -- the keys that are left after one more
 module _ (keys later : List ℕ) (x : ℕ) (e : keys ≡ x ∷ later) where
-  pub repeat_here : list_any (λ (y : ℕ). eqb y x) later ≡ true → repeats keys ≡ true
+  pub repeat_here : holds x later ≡ true → repeats keys ≡ true
   unfolding repeats
-  repeat_here h = rw (e, ← any_is (λ (y : ℕ). eqb y x) later, h)
+  repeat_here h = rw (e, h)
 
-  pub repeat_later : list_any (λ (y : ℕ). eqb y x) later ≡ false → repeats later ≡ repeats keys
+  pub repeat_later : holds x later ≡ false → repeats later ≡ repeats keys
   unfolding repeats
-  repeat_later h = rw (e, ← any_is (λ (y : ℕ). eqb y x) later, h)
+  repeat_later h = rw (e, h)
 
 pub repeat_end : (keys : List ℕ) → length keys ≡ 0 → repeats keys ≡ false
 unfolding repeats

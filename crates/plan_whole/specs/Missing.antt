@@ -1,7 +1,6 @@
 -- Number 8, as the code reads it.
-use Rattle.std.specs.Prelude.{Bool, false, not, true, List, [], map, ◌∷◌, refl, ◌≡◌, suc, zero, ℕ, ◌+◌, ◌<◌, ◌≤◌, eqb, drop, get_or, length, take}
-use Rattle.std.specs.Prelude.{Option, None, Some, MatchOption, IfSome, is_some, unwrap_or}
-use Rattle.std.specs.List.{AllWithin, HoldsAt}
+use Rattle.std.specs.Prelude.{Bool, false, not, true, List, [], map, ◌∷◌, refl, ◌≡◌, ℕ, ◌+◌, ◌<◌, ◌≤◌, eqb, drop, get_or, length, take}
+use Rattle.std.specs.Prelude.{Option, None, Some, IfSome, is_some, unwrap_or}
 use Rattle.std.proofs.Common.{ap, sym, ◌∙◌, true≢false}
 use native.Mathlib.Omega.{arith}
 use borrow.Author.Tests.{eq-eqb, ne_eqb}
@@ -50,22 +49,6 @@ module _ (k : ℕ) (keys : List ℕ) (i d : ℕ) where
   pub index_end : length keys ≤ i → index_of k (drop i keys) i d ≡ d
   unfolding index_of
   index_end h = rw (drop_none keys i h)
-
--- keys that are not k are passed over, so the first that is k is the one found
-module _ (k : ℕ) (keys : List ℕ) (d : ℕ) where
-  index_past : (i : ℕ) → i ≤ length keys → AllWithin (λ (y : ℕ). eqb y k ≡ false) keys 0 i → index_of k (drop i keys) i d ≡ index_of k keys 0 d
-  index_past zero h f = refl
-  index_past (suc i) h f =
-      let one : suc i ≡ i + 1 = omega arith in
-      rw one (index_later k keys i d (omega arith) (f i 0 (omega arith) (omega arith))
-      ∙ index_past i (omega arith) (λ m e a b. f m e a (omega arith)))
-
-  pub index_first : (r : Option ℕ)
-      → MatchOption r (AllWithin (λ (y : ℕ). eqb y k ≡ false) keys 0 (length keys))
-      (λ i. (i < length keys) × HoldsAt (λ (y : ℕ). eqb y k ≡ true) keys i × AllWithin (λ (y : ℕ). eqb y k ≡ false) keys 0 i)
-      → unwrap_or r d ≡ index_of k keys 0 d
-  index_first None h = sym (index_end k keys (length keys) d (omega arith)) ∙ index_past (length keys) (omega arith) h
-  index_first (Some i) h = sym (index_here k keys i d h.0 (h.1 0)) ∙ index_past i (omega (arith, h.0)) h.2
 
 -- number 8 of a plan is that of its records in the file
 pub from_is : (s : List ℕ) → Bytes s → (m ns ks : List ℕ) → ByNumber m ns 0

@@ -3,7 +3,7 @@
 
 ghost use Rattle.std.specs.Prelude.{◌≡◌, ◌≢◌, map, ℕ, ◌+◌, ◌*◌, ◌≤◌, ◌<◌, length, get_or, IfSome, OnOk, unwrap_or};
 ghost use Rattle.fields.specs.Fields.{u16_at};
-ghost use Rattle.plan_format.specs.Plan.{any, from_missing, repeats, index_of};
+ghost use Rattle.plan_format.specs.Plan.{any, from_missing, holds, repeats, index_of};
 ghost use Rattle.plan_format.specs.Records.{link_at, raised_at};
 ghost use Rattle.plan_format.specs.Refusals.{found_number};
 ghost use Rattle.plan_scan.specs.Parts.{Parts};
@@ -93,13 +93,25 @@ pub fn keys<const N: usize>(file: &[u8], part: &[usize], kind: Key) -> ArrayVec<
     keys
 }
 
+// Whether x is one of the keys. A `for`, since `contains` takes 1.4 times as long here.
+fn holds(keys: &[usize], x: usize) -> bool
+    ensures { result ≡ holds x keys.now }
+{
+    for key in keys {
+        if *key == x {
+            return true;
+        }
+    }
+    false
+}
+
 // Whether one of the keys stands twice.
 fn has_repeat(keys: &[usize]) -> bool
     ensures { result ≡ repeats keys.now }
 {
     let mut rest = keys;
     while let Some((key, later)) = rest.split_first() {
-        if later.contains(key) {
+        if holds(later, *key) {
             return true;
         }
         rest = later;
@@ -115,7 +127,8 @@ fn repeats_key(file: &[u8], part: &[usize], kind: Key) -> bool
     has_repeat(&keys::<256>(file, part, kind))
 }
 
-// The rows of lanes by their numbers, or of places by their lanes'; 256 for none. Backwards, so that the first with a number stays.
+// The rows of lanes by their numbers, or of places by their lanes'. Backwards, so that the first with a number stays.
+// An entry is 256 where there is no row, since the tables for C are written with the entries as they stand.
 pub fn index_numbers(file: &[u8], part: &[usize], rows: &mut [u16])
     requires { Listed file.now part.now 256 × (length rows.old ≡ 65536) }
     ensures { ByNumber rows.new (map (key_at file.now 0) part.now) 0 }
@@ -140,12 +153,17 @@ pub fn lane_row(file: &[u8], at: usize, rows: &[u16]) -> Option<usize>
     }
 }
 
-// Where k first stands among the keys.
+// Where k first stands among the keys. A `for`, since `position` takes longer here.
 pub fn find(keys: &[usize], k: usize) -> Option<usize>
     ensures place { (d : ℕ) → unwrap_or result d ≡ index_of k keys.now 0 d }
     ensures within { IfSome result (λ i. i < length keys.now) }
 {
-    keys.iter().position(|key| *key == k)
+    for i in 0..keys.len() {
+        if keys[i] == k {
+            return Some(i);
+        }
+    }
+    None
 }
 
 impl<'a> Records<'a> {

@@ -10,7 +10,7 @@ ghost use Rattle.tables.specs.Opening.{Polylines};
 
 use geometry_rows::{build_cumulative, build_tangents};
 use plan::read_plan;
-use plan_format::{Read, refused};
+use plan_format::{Read, Refusal};
 
 // The arc lengths and the tangents of n lanes with m points, from their rows in the plan's tables.
 fn build(
@@ -70,14 +70,14 @@ pub fn open(
         tangents.new) }
 {
     if cumulative.len() < 4096 {
-        return refused(1);
+        return Read::from(Err(Refusal::ShortTable));
     }
     if tangents.len() < 12288 {
-        return refused(1);
+        return Read::from(Err(Refusal::ShortTable));
     }
-    let r = read_plan(
+    let r = Read::from(read_plan(
         file, side, lanes, points, ends, fans, links, sections, bounds, stations, places,
-    );
+    ));
     if r.number != 0 {
         return r;
     }

@@ -1,10 +1,6 @@
 -- What is left of the walk gives what the whole gives (Seeking); each turn passes one record.
-use mathlib.Core.Path.{sym, ◌∙◌}
-use Prim.Native.Nat.{◌-◌}
-use native.Mathlib.Omega.{arith}
-use lib.ListN.{length}
-use borrow.Author.Rules.{rules}
-use Rattle.plan_queries.specs.Seeking.{Seeking, seek_end, seek_found, seek_misfit, seek_next, seek_start, whole_room}
+use Rattle.std.proofs.Common.{◌-◌, length}
+use Rattle.plan_queries.specs.Seeking.{Seeking}
 use Rattle.plan_queries.proofs.next_query.Given as goal
 
 abbrev pub invariant-loop-size : goal.invariant-loop-size

@@ -1,154 +1,48 @@
--- Each kind's fields stand where the definition reads them; a fitting length covers them.
-use mathlib.Core.Path.{sym, ◌∙◌}
-use native.Mathlib.Omega.{arith}
-use borrow.Author.Rules.{rules}
-use borrow.Author.Tests.{eq-eqb, ne_eqb}
+-- Each kind's fields lie within a fitting length.
+use Rattle.std.proofs.Common.{ap, refl, sym, ◌∙◌, ◌≡◌, true, arith}
+use Rattle.plan_format.specs.Kinds.{kind_number}
+use Rattle.plan_format.specs.Queries.{is_query}
 use Rattle.plan_format.specs.Records.{query_at}
-use Rattle.plan_queries.specs.Seeking.{last_kind, later_size}
+use Rattle.plan_format.specs.declared.Kind.{Kind}
+use Rattle.plan_format.specs.declared.Kind.TheVariants.{Lane, Link, Section, Place, Route, Advance, Beside}
 use Rattle.plan_scan.specs.Sizes.{advance_size, beside_size, route_size}
 use Rattle.plan_queries.proofs.query_at.Goals as goal
 
-pub f32_at-requires : goal.f32_at-requires
-f32_at-requires c =
-    let a = c.args in
-    let pre = c.requires in
-    let size = route_size a.file.now a.at a.kind a.size pre.2 c.if-kind-eq16.true in
-    omega (arith, pre.0)
+-- what is no query of the kinds Route or Advance is of the kind Beside
+last_is : (k : Kind) → is_query (kind_number k) ≡ true → (k ≡ Route → ⊥) → (k ≡ Advance → ⊥) → kind_number k ≡ 18
+last_is Lane e x y = cc
+last_is Link e x y = cc
+last_is Section e x y = cc
+last_is Place e x y = cc
+last_is Route e x y = absurd (x refl)
+last_is Advance e x y = absurd (y refl)
+last_is Beside e x y = refl
 
-pub f32_at-requires-then-kind-eq16 : goal.f32_at-requires-then-kind-eq16
-f32_at-requires-then-kind-eq16 c =
-    let a = c.args in
+pub route_at-requires : goal.route_at-requires
+route_at-requires c =
     let pre = c.requires in
-    let size = route_size a.file.now a.at a.kind a.size pre.2 c.if-kind-eq16.true in
-    omega (arith, pre.0)
+    omega (arith, route_size c.args.file.now c.args.at _ c.args.size pre.2 (ap kind_number c.in-Route.is))
 
-pub f32_at-requires-then-kind-eq16-2 : goal.f32_at-requires-then-kind-eq16-2
-f32_at-requires-then-kind-eq16-2 c =
-    let if1 = c.if-kind-eq16 in
-    let a = c.args in
+pub advance_at-requires : goal.advance_at-requires
+advance_at-requires c =
     let pre = c.requires in
-    let size = route_size a.file.now a.at a.kind a.size pre.2 if1.true in
-    omega (arith, pre.0)
+    omega (arith, advance_size c.args.file.now c.args.at _ c.args.size pre.2 (ap kind_number c.in-Advance.is))
 
-pub f32_at-requires-then-kind-eq16-3 : goal.f32_at-requires-then-kind-eq16-3
-f32_at-requires-then-kind-eq16-3 c =
-    let if1 = c.if-kind-eq16 in
-    let a = c.args in
+pub beside_at-requires : goal.beside_at-requires
+beside_at-requires c =
     let pre = c.requires in
-    let size = route_size a.file.now a.at a.kind a.size pre.2 if1.true in
-    omega (arith, pre.0)
+    let last = last_is c.args.kind pre.3 c.in_default.not-Route c.in_default.not-Advance in
+    omega (arith, beside_size c.args.file.now c.args.at _ c.args.size pre.2 last)
 
-pub f32_at-requires-then-kind-eq16-4 : goal.f32_at-requires-then-kind-eq16-4
-f32_at-requires-then-kind-eq16-4 c =
-    let if1 = c.if-kind-eq16 in
-    let a = c.args in
-    let pre = c.requires in
-    let size = route_size a.file.now a.at a.kind a.size pre.2 if1.true in
-    omega (arith, pre.0)
-
-pub f32_at-requires-then-kind-eq16-5 : goal.f32_at-requires-then-kind-eq16-5
-f32_at-requires-then-kind-eq16-5 c =
-    let if1 = c.if-kind-eq16 in
-    let a = c.args in
-    let pre = c.requires in
-    let size = route_size a.file.now a.at a.kind a.size pre.2 if1.true in
-    omega (arith, pre.0)
-
-pub returns-then-kind-eq16 : goal.returns-then-kind-eq16
+pub returns-in-Route : goal.returns-in-Route
 unfolding query_at
-returns-then-kind-eq16 c =
-    let f32-at4 = c.f32_at-then-kind-eq16-3 in
-    let f32-at3 = c.f32_at-then-kind-eq16-2 in
-    let f32-at2 = c.f32_at-then-kind-eq16 in
-    let f32-at = c.f32_at in
-    let if1 = c.if-kind-eq16 in
-    let pre = c.requires in
-    simp (
-      eq-eqb _ _ (sym pre.1 ∙ if1.true),
-      f32-at.ensures,
-      f32-at2.ensures,
-      f32-at3.ensures,
-      f32-at4.ensures,
-      c.f32_at-then-kind-eq16-4.ensures,
-      c.f32_at-then-kind-eq16-5.ensures,
-    )
+returns-in-Route c = rw (sym c.requires.1 ∙ ap kind_number c.in-Route.is) c.route_at.ensures
 
-pub overflow_add-at-2 : goal.overflow_add-at-2
-overflow_add-at-2 c =
-    let a = c.args in
-    let pre = c.requires in
-    let size = later_size a.file.now a.at a.kind a.size pre.2 pre.3 c.if-kind-eq16.false in omega (arith, pre.0)
-
-pub u16_at-requires : goal.u16_at-requires
-u16_at-requires c =
-    let a = c.args in
-    let pre = c.requires in
-    let size = later_size a.file.now a.at a.kind a.size pre.2 pre.3 c.if-kind-eq16.false in omega (arith, pre.0)
-
-pub overflow_add-at-3 : goal.overflow_add-at-3
-overflow_add-at-3 c =
-    let a = c.args in
-    let pre = c.requires in
-    let size = later_size a.file.now a.at a.kind a.size pre.2 pre.3 c.if-kind-eq16.false in omega
-    (arith, pre.0)
-
-pub f64_at-s-requires : goal.f64_at-s-requires
-f64_at-s-requires c =
-    let a = c.args in
-    let pre = c.requires in
-    let size = later_size a.file.now a.at a.kind a.size pre.2 pre.3 c.if-kind-eq16.false in omega
-    (arith, pre.0)
-
-pub f64_at-requires : goal.f64_at-requires
-f64_at-requires c =
-    let a = c.args in
-    let pre = c.requires in
-    let size = advance_size a.file.now a.at a.kind a.size pre.2 c.if-kind-eq17.true in omega (arith, pre.0)
-
-pub f64_at-requires-then-kind-eq17 : goal.f64_at-requires-then-kind-eq17
-f64_at-requires-then-kind-eq17 c =
-    let a = c.args in
-    let pre = c.requires in
-    let size = advance_size a.file.now a.at a.kind a.size pre.2 c.if-kind-eq17.true in omega (arith, pre.0)
-
-pub returns-then-kind-eq17 : goal.returns-then-kind-eq17
+pub returns-in-Advance : goal.returns-in-Advance
 unfolding query_at
-returns-then-kind-eq17 c =
-    let if2 = c.if-kind-eq17 in
-    let f64-at = c.f64_at-s in
-    let u16-at = c.u16_at in
-    let if1 = c.if-kind-eq16 in
-    let pre = c.requires in
-    simp (
-      ne_eqb _ _ (λ e. if1.false (pre.1 ∙ e)),
-      eq-eqb _ _ (sym pre.1 ∙ if2.true),
-      u16-at.ensures.0,
-      f64-at.ensures,
-      c.f64_at.ensures,
-      c.f64_at-then-kind-eq17.ensures,
-    )
+returns-in-Advance c = rw (sym c.requires.1 ∙ ap kind_number c.in-Advance.is) c.advance_at.ensures
 
-pub u8_at-requires : goal.u8_at-requires
-u8_at-requires c =
-    let if1 = c.if-kind-eq16 in
-    let a = c.args in
-    let pre = c.requires in
-    let size =
-    beside_size a.file.now a.at a.kind a.size pre.2
-    (last_kind a.kind pre.3 if1.false c.if-kind-eq17.false) in
-    omega (arith, pre.0)
-
-pub returns : goal.returns
+pub returns-in_default : goal.returns-in_default
 unfolding query_at
-returns c =
-    let f64-at = c.f64_at-s in
-    let u16-at = c.u16_at in
-    let if1 = c.if-kind-eq16 in
-    let pre = c.requires in
-    simp (
-      ne_eqb _ _ (λ e. if1.false (pre.1 ∙ e)),
-      ne_eqb _ _ (λ e. c.if-kind-eq17.false (pre.1 ∙ e)),
-      u16-at.ensures.0,
-      f64-at.ensures,
-      c.u8_at.ensures.0,
-    )
+returns-in_default c =
+    rw (sym c.requires.1 ∙ last_is c.args.kind c.requires.3 c.in_default.not-Route c.in_default.not-Advance) c.beside_at.ensures

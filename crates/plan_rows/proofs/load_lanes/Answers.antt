@@ -10,7 +10,14 @@ use Rattle.plan_rows.proofs.load_lanes.Goals as goal
 pub loop-i-preserved : goal.loop-i-preserved
 loop-i-preserved c =
     let l = c.loop-i in
-    let row = rw (c.u16_at.ensures.0, c.u8_at.ensures.0, c.u8_at-in-loop-i.ensures.0, c.u8_at-in-loop-i-2.ensures.0, c.u16_at-n.ensures.0) at c.put_row.ensures in
+    let row =
+    rw (
+      c.u16_at.ensures.0,
+      c.u8_at.ensures.0,
+      c.u8_at-in-loop-i.ensures.0,
+      c.u8_at-in-loop-i-2.ensures.0,
+      c.u16_at-n.ensures.0,
+    ) at c.put_row.ensures in
     let next : 6 * (l.i + 1) ≡ 6 * l.i + 6 = omega arith in (
       omega (arith, c.u16_at-n.ensures.1, l.invariant.0),
       rw next

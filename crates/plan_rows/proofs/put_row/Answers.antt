@@ -1,6 +1,6 @@
 -- The part that is written is the row.
 use Rattle.std.proofs.Common.{◌+◌, ◌-◌, length, arith}
-use Rattle.plan_rows.specs.Runs.{part_is}
+use Rattle.plan_rows.specs.Counted.{part_is}
 use Rattle.plan_rows.proofs.put_row.Goals as goal
 
 pub returns : goal.returns

@@ -1,13 +1,25 @@
--- The first of the keys that is k, as the definition counts it.
-use Rattle.std.specs.Prelude.{false, true, ◌≡◌, eqb}
-use Rattle.std.proofs.Common.{rules}
-use Rattle.std.proofs.lemmas.Iterator.{IsFirst-from_position, YieldsList-from_slice}
-use Rattle.plan_whole.specs.Missing.{index_first}
+-- What is left of the keys has k where all have it.
+use Rattle.std.proofs.Common.{arith, refl, sym, ◌∙◌, eq-eqb, ne_eqb}
+use Rattle.plan_whole.specs.Missing.{index_end, index_here, index_later}
 use Rattle.plan_whole.proofs.find.Goals as goal
+
+pub loop-i-init : goal.loop-i-init
+loop-i-init c d = refl
+
+pub returns-then-keys-i-clause-place : goal.returns-then-keys-i-clause-place
+returns-then-keys-i-clause-place c d =
+    let l = c.loop-i in
+    let a = c.args in
+    sym (index_here a.k a.keys.now l.i d (omega arith) (eq-eqb _ _ c.if-keys-i.true)) ∙ l.invariant d
+
+pub loop-i-preserved : goal.loop-i-preserved
+loop-i-preserved c d =
+    let l = c.loop-i in
+    let a = c.args in
+    index_later a.k a.keys.now l.i d (omega arith) (ne_eqb _ _ c.if-keys-i.false) ∙ l.invariant d
 
 pub returns-clause-place : goal.returns-clause-place
 returns-clause-place c d =
-    let k = c.args.k in
-    index_first k c.args.keys.now d c.position.result
-    (IsFirst-from_position _ _ c.position.result (λ y. eqb y k ≡ true) (λ y. eqb y k ≡ false) c.position.ensures.ran
-    (YieldsList-from_slice c.args.keys.now (cc)) (λ x q r. search rules) (λ x q r. search rules))
+    let l = c.loop-i in
+    let a = c.args in
+    sym (index_end a.k a.keys.now l.i d (omega arith)) ∙ l.invariant d

@@ -5,4 +5,4 @@ use Rattle.plan_whole.specs.Which.{which}
 use Rattle.plan_whole.proofs.keys.Given as goal
 
 abbrev pub invariant-loop-at : goal.invariant-loop-at
-invariant-loop-at g l = l.keys.items ≡ map (key_at l.file (which l.kind)) (take l.at-index l.part)
+invariant-loop-at g l = l.keys.items ≡ map (key_at l.file (which l.fn.kind)) (take l.at-index l.part)

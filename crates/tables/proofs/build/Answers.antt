@@ -1,5 +1,4 @@
 -- `build` hands the front of each table to the functions that write one.
-use borrow.Author.Rules.{rules}
 use native.Mathlib.Omega.{arith}
 use mathlib.Core.Path.{sym}
 use lib.Seq.{length-take-le}

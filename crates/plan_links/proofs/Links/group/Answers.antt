@@ -71,7 +71,8 @@ loop-i-preserved c =
           c.write-b.ensures.0 c.write-c.ensures.0 c.write-a.ensures.1 c.write-b.ensures.1 c.write-c.ensures.1,
       fans_next s m links c.args.placed.now c.args.lanes.now c.args.fans.now l.fans l.i l.k l.invariant.2 more
           (omega (arith, more, c.requires.0.count, c.requires.4)) c.write-a.result c.write-b.result c.write-c.result
-          c.unwrap_or-place.result _ c.write-a.ensures.0 c.write-b.ensures.0 c.write-c.ensures.0 (c.unwrap_or-place.ensures ∙ c.lane_row.ensures.row) c.put_row.ensures,
+          c.unwrap_or-place.result _ c.write-a.ensures.0 c.write-b.ensures.0 c.write-c.ensures.0
+          (c.unwrap_or-place.ensures ∙ c.lane_row.ensures.row) c.put_row.ensures,
     )
 
 pub returns : goal.returns

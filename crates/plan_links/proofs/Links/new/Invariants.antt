@@ -5,4 +5,5 @@ use Rattle.plan_links.proofs.Links.new.Given as goal
 
 abbrev pub invariant-loop-j : goal.invariant-loop-j
 invariant-loop-j l =
-    (length l.first ≡ 768) × (length l.next ≡ 2048) × Chains (length l.starts) (heads l.first) (heads l.next) (map (link_key l.file l.index) (drop l.j l.starts)) l.j
+    (length l.first ≡ 768) × (length l.next ≡ 2048)
+    × Chains (length l.starts) (heads l.first) (heads l.next) (map (link_key l.file l.index) (drop l.j l.starts)) l.j

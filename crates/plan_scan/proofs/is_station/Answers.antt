@@ -1,8 +1,0 @@
--- The two comparisons of the definition.
-use Rattle.plan_scan.proofs.is_station.Goals as goal
-
-pub returns-then-x : goal.returns-then-x
-returns-then-x c = simp c.if-x.true
-
-pub returns-else-x : goal.returns-else-x
-returns-else-x c = simp c.if-x.false

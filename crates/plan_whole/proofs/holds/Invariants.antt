@@ -1,0 +1,7 @@
+-- What is left of the keys holds x exactly when all do.
+use Rattle.std.proofs.Common.{◌≡◌, drop}
+use Rattle.plan_format.specs.Plan.{holds}
+use Rattle.plan_whole.proofs.holds.Given as goal
+
+abbrev pub invariant-loop-key : goal.invariant-loop-key
+invariant-loop-key l = holds l.x (drop l.key-index l.keys) ≡ holds l.x l.keys
