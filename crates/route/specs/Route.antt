@@ -1,5 +1,5 @@
 -- The route query: document 01's numbers 9, 10, 11 and 14, the chain of lanes, its points and its length. Definitions only.
-use Rattle.std.specs.Prelude.{Bool, cond, false, true, ◌&&◌, List, [], map, ◌++◌, ◌∷◌, ◌≡◌, suc, zero, ℕ, ◌/◌, eqb, leb, Float, length}
+use Rattle.std.specs.Prelude.{Bool, cond, false, true, ◌&&◌, List, [], map, ◌++◌, ◌∷◌, ◌≡◌, suc, zero, ℕ, ◌/◌, eqb, leb, Float, length, Option, None, Some}
 use Rattle.branches.specs.Tables.{AllLaid}
 use Rattle.coords.specs.Coords.{finite_point, zero⁺}
 use Rattle.coords.specs.declared.Point.{Point}
@@ -9,7 +9,6 @@ use Rattle.network.specs.Lanes.{Lane, drives_table}
 use Rattle.network.specs.Nearest.{nearest_lane}
 use Rattle.network.specs.Tables.{told}
 use Rattle.network.specs.declared.Nearest.{Nearest}
-use Rattle.network.specs.declared.Nearest.TheVariants.{Found, None}
 use Rattle.plan_format.specs.Plan.{Plan}
 use Rattle.plan_format.specs.Tables.{plan_rows}
 use Rattle.rows.specs.Rows.{direction_of, lane_number, length_of}
@@ -61,10 +60,11 @@ followed T s t (found path cost) =
     record { number = 0; chain = map (lane_number T.lanes) path; points = flat (sample_route T path s t); length = cost }
 
 -- NUMBER 10 where no lane drives; else from the lane nearest to the first point to the one nearest to the second
-unfoldable pub between : RouteTables → ℕ → Nearest → Nearest → Routed
+unfoldable pub between : RouteTables → ℕ → Option Nearest → Option Nearest → Routed
 between T n None b = refusal 10
-between T n (Found d i start q) None = refusal 10
-between T n (Found d i start q) (Found e j goal r) = followed T q.s r.s (path_of T.lanes (graph_of T n) start q.s goal r.s)
+between T n (Some a) None = refusal 10
+between T n (Some a) (Some b) =
+    followed T a.projection.s b.projection.s (path_of T.lanes (graph_of T n) a.row a.projection.s b.row b.projection.s)
 
 -- NUMBER 9 where a coordinate is not finite. The lanes `ls` are the n lanes of the tables.
 unfoldable pub routed : RouteTables → ℕ → List Lane → Point → Point → Routed

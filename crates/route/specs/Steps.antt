@@ -1,7 +1,7 @@
--- Laws of the route query's steps: the lengths, the path as the search's array has it, the count, the lists.
-use Rattle.std.specs.Prelude.{Bool, true, ◌&&◌, List, [], map, ◌++◌, ◌∷◌, refl, ◌≡◌, suc, zero, ℕ, ◌*◌, ◌+◌, ◌/◌, ◌<◌, ◌≤◌, Float, drop, get_or, set, take}
+-- Laws of the route query's steps: the lengths, the count, the lists.
+use Rattle.std.specs.Prelude.{Bool, true, ◌&&◌, List, [], map, ◌++◌, ◌∷◌, refl, ◌≡◌, suc, zero, ℕ, ◌*◌, ◌+◌, ◌/◌, ◌<◌, ◌≤◌, Float, get_or, set, take, Option, None, Some, slice_index_or}
 use Rattle.std.proofs.Math.Bool.{cond, false}
-use Rattle.std.proofs.Common.{true≢false, subst, sym, ◌∙◌, add-one, length-append, length-take-le, take_all, take_at, take-suc}
+use Rattle.std.proofs.Common.{subst, sym, ◌∙◌, add-one, length-append, length-take-le, take_all, take-suc}
 use Rattle.std.proofs.lemmas.List.{map-append}
 use Rattle.std.proofs.Math.Path.{ap, ap₂}
 use native.Mathlib.Omega.{arith}
@@ -13,22 +13,16 @@ use Rattle.coords.specs.declared.Point.{Point}
 use Rattle.geometry.specs.Over.{over, over_next}
 use Rattle.geometry.specs.declared.Projection.{Projection}
 use Rattle.nearest.specs.Answer.{row_below}
-use Rattle.nearest.specs.Nearest.{both_of}
-use Rattle.nearest.specs.declared.NearestPair.{NearestPair}
 use Rattle.network.specs.Lanes.{Lane, drives_table}
 use Rattle.network.specs.Nearest.{nearest_lane}
 use Rattle.network.specs.Tables.{lanes_from, told}
 use Rattle.network.specs.declared.Nearest.{Nearest}
-use Rattle.network.specs.declared.Nearest.TheVariants.{Found, None}
 use Rattle.rows.specs.Rows.{arcs_of, end_point, lane_number, length_of}
 use Rattle.sampling.specs.Kept.{first_of, flat, laid}
-use Rattle.sampling.specs.Passes.{AllLinked, PathRows, Sampled, first_all, laid_flat, length_first, length_flat}
+use Rattle.sampling.specs.Passes.{AllLinked, Sampled, first_all, laid_flat, length_first, length_flat}
 use Rattle.sampling.specs.Sampling.{RouteTables, sample_route}
 use Rattle.sampling.specs.declared.Kept.{Kept}
-use Rattle.search.specs.LaneGraph as graph
 use Rattle.search.specs.Search.{Result, found, refused}
-use Rattle.search.specs.declared.Answer.{Answer}
-use Rattle.route.specs.PathRows.{OfPath}
 use Rattle.route.specs.Route.{Routable, Routed, Routes, answer_of, between, fitted, followed, graph_of, lengths_to, path_of}
 use Rattle.route.specs.Route.{refusal, routed}
 use Rattle.route.specs.declared.RouteAnswer.{RouteAnswer}
@@ -41,9 +35,9 @@ AllLong lanes cumulative n =
     (i : ℕ) → i < n → (6 * i + 5 < length lanes) × (end_point lanes i ≤ length cumulative) × (0 < length (arcs_of lanes cumulative i))
 
 -- the row that is nearest is one of n lanes
-abbrev pub RowIn : ℕ → Nearest → Type 0
+abbrev pub RowIn : ℕ → Option Nearest → Type 0
 RowIn n None = Unit
-RowIn n (Found d i row q) = row < n
+RowIn n (Some b) = b.row < n
 
 module _ (T : RouteTables) (n : ℕ) (R : Routable T n) where
   pub all_long : AllLong T.lanes T.cumulative n
@@ -68,55 +62,10 @@ length_lengths lanes cumulative (suc k) =
     length-append (lengths_to lanes cumulative k) (length_of lanes cumulative k ∷ [])
     ∙ ap (λ (m : ℕ). m + 1) (length_lengths lanes cumulative k) ∙ add-one k
 
-pub lengths_start : (lanes : List ℕ) (cumulative old : List Float) → old ≡ over (lengths_to lanes cumulative 0) old
+pub lengths_next : (lanes : List ℕ) (cumulative : List Float) (k : ℕ)
+    → lengths_to lanes cumulative (k + 1) ≡ lengths_to lanes cumulative k ++ (length_of lanes cumulative k ∷ [])
 unfolding lengths_to
-lengths_start lanes cumulative old = refl
-
-pub lengths_next : (lanes : List ℕ) (cumulative old out : List Float) (k : ℕ) (x : Float) → k < length old
-    → out ≡ over (lengths_to lanes cumulative k) old → x ≡ length_of lanes cumulative k
-    → set out k x ≡ over (lengths_to lanes cumulative (k + 1)) old
-unfolding lengths_to
-lengths_next lanes cumulative old out k x h e f =
-    ap₂ (λ (o : List Float) (y : Float). set o k y) e f
-    ∙ over_next (lengths_to lanes cumulative k) old k (length_of lanes cumulative k) (length_lengths lanes cumulative k) h
-    ∙ ap (λ (m : ℕ). over (lengths_to lanes cumulative m) old) (sym (add-one k))
-
-pub lengths_front : (lanes : List ℕ) (cumulative old out : List Float) (n : ℕ) → out ≡ over (lengths_to lanes cumulative n) old
-    → take n out ≡ lengths_to lanes cumulative n
-lengths_front lanes cumulative old out n e =
-    ap (take n) e ∙ take_at (lengths_to lanes cumulative n) (drop (length (lengths_to lanes cumulative n)) old) n (length_lengths lanes cumulative n)
-
-pub lengths_long : (lanes : List ℕ) (cumulative old out : List Float) (n : ℕ) → out ≡ over (lengths_to lanes cumulative n) old
-    → n ≤ length out
-lengths_long lanes cumulative old out n e =
-    let front = lengths_to lanes cumulative n in
-    let a = ap length e ∙ length-append front (drop (length front) old) in
-    let b = length_lengths lanes cumulative n in
-    omega arith
-
--- ---- the path as the search's array has it
-
--- nothing is found
-pub path_none : (a : Answer) (X : Result Float) → a ≡ graph.answer_of X → a.ok ≡ false → X ≡ refused
-unfolding graph.answer_of
-path_none a refused e h = refl
-path_none a (found path cost) e h = absurd (true≢false (sym (ap (λ (b : Answer). b.ok) e) ∙ h))
-
--- the path stands at the front
-pub record Found-path (a : Answer) (X : Result Float) (n : ℕ) : Type 0 where
-  pub is : X ≡ found (take a.count a.path) a.cost
-  pub rows : PathRows (take a.count a.path) n
-  pub within : a.count ≤ length a.path
-
-pub path_found : (a : Answer) (X : Result Float) (n : ℕ) → OfPath n X → a ≡ graph.answer_of X → a.ok ≡ true → Found-path a X n
-unfolding graph.answer_of
-path_found a refused n P e h = absurd (true≢false (sym h ∙ ap (λ (b : Answer). b.ok) e))
-path_found a (found path cost) n P e h =
-    let whole : take a.count a.path ≡ path = ap (λ (b : Answer). take b.count b.path) e ∙ take_at path _ (length path) refl in
-    let c = ap (λ (b : Answer). b.cost) e in
-    let k = ap (λ (b : Answer). b.count) e in
-    let l = ap (λ (b : Answer). length b.path) e ∙ length-append path _ in
-    record { is = ap₂ found (sym whole) (sym c); rows = rw whole P; within = omega arith }
+lengths_next lanes cumulative k = rw add-one
 
 -- ---- the count of the points
 
@@ -243,29 +192,30 @@ module _ (T : RouteTables) (n chainRoom waypointRoom : ℕ) where
   path_taken s t cost path X e = ap (λ (Y : Result Float). fitted chainRoom waypointRoom (followed T s t Y)) (sym e)
 
   -- no lane drives, and two lanes
-  module _ (from to : Nearest) where
+  module _ (from to : Option Nearest) where
     pub from_none : from ≡ None → refusal 10 ≡ fitted chainRoom waypointRoom (between T n from to)
     unfolding between
-    from_none e = refusal_fits chainRoom waypointRoom 10 ∙ ap (λ (x : Nearest). fitted chainRoom waypointRoom (between T n x to)) (sym e)
+    from_none e = refusal_fits chainRoom waypointRoom 10 ∙ ap (λ (x : Option Nearest). fitted chainRoom waypointRoom (between T n x to)) (sym e)
 
-    module _ (d : Float) (i start : ℕ) (q : Projection) (e : from ≡ Found d i start q) where
+    module _ (a : Nearest) (e : from ≡ Some a) where
       pub to_none : to ≡ None → refusal 10 ≡ fitted chainRoom waypointRoom (between T n from to)
       unfolding between
-      to_none f = refusal_fits chainRoom waypointRoom 10 ∙ ap₂ (λ (x y : Nearest). fitted chainRoom waypointRoom (between T n x y)) (sym e) (sym f)
+      to_none f = refusal_fits chainRoom waypointRoom 10 ∙ ap₂ (λ (x y : Option Nearest). fitted chainRoom waypointRoom (between T n x y)) (sym e) (sym f)
 
-      pub both_found : (c : Float) (j goal : ℕ) (r : Projection) → to ≡ Found c j goal r
-          → fitted chainRoom waypointRoom (followed T q.s r.s (path_of T.lanes (graph_of T n) start q.s goal r.s))
+      pub both_found : (b : Nearest) → to ≡ Some b
+          → fitted chainRoom waypointRoom
+          (followed T a.projection.s b.projection.s (path_of T.lanes (graph_of T n) a.row a.projection.s b.row b.projection.s))
           ≡ fitted chainRoom waypointRoom (between T n from to)
       unfolding between
-      both_found c j goal r f = ap₂ (λ (x y : Nearest). fitted chainRoom waypointRoom (between T n x y)) (sym e) (sym f)
+      both_found b f = ap₂ (λ (x y : Option Nearest). fitted chainRoom waypointRoom (between T n x y)) (sym e) (sym f)
 
   -- the points are finite, or not
   module _ (ls : List Lane) (from to : Point) (b : Bool) (e : b ≡ finite_point from && finite_point to) where
-    pub both_near : (x y : Nearest) → b ≡ true → x ≡ told (nearest_lane drives_table ls from) → y ≡ told (nearest_lane drives_table ls to)
+    pub both_near : (x y : Option Nearest) → b ≡ true → x ≡ told (nearest_lane drives_table ls from) → y ≡ told (nearest_lane drives_table ls to)
         → fitted chainRoom waypointRoom (between T n x y) ≡ fitted chainRoom waypointRoom (routed T n ls from to)
     unfolding routed
     both_near x y t f g =
-        ap₂ (λ (v w : Nearest). fitted chainRoom waypointRoom (between T n v w)) f g
+        ap₂ (λ (v w : Option Nearest). fitted chainRoom waypointRoom (between T n v w)) f g
         ∙ ap (λ (a : Bool). fitted chainRoom waypointRoom
         (cond a (between T n (told (nearest_lane drives_table ls from)) (told (nearest_lane drives_table ls to))) (refusal 9))) (sym t ∙ e)
 
@@ -278,28 +228,26 @@ module _ (T : RouteTables) (n chainRoom waypointRoom : ℕ) where
 
 -- ---- the rows that are nearest
 
-pub row_of : (n : ℕ) (x : Nearest) (d : Float) (i row : ℕ) (q : Projection) → RowIn n x → x ≡ Found d i row q → row < n
-row_of n x d i row q h e = subst (RowIn n) e h
+pub row_of : (n : ℕ) (x : Option Nearest) (b : Nearest) → RowIn n x → x ≡ Some b → b.row < n
+row_of n x b h e = subst (RowIn n) e h
 
-module _ (lanes : List ℕ) (points : List Float) (n : ℕ) (from to : Point) (r : NearestPair)
-    (e : r ≡ both_of (lanes_from lanes points n 0) from to) where
-  abbrev nearest : Point → Nearest
+module _ (lanes : List ℕ) (points : List Float) (n : ℕ) where
+  abbrev nearest : Point → Option Nearest
   nearest p = told (nearest_lane drives_table (lanes_from lanes points n 0) p)
 
-  row_near : (p : Point) (x : Nearest) → x ≡ nearest p → RowIn n x
+  row_near : (p : Point) (x : Option Nearest) → x ≡ nearest p → RowIn n x
   row_near p None f = tt
-  row_near p (Found d i row q) f = row_below lanes points n p d i row q f
+  row_near p (Some b) f = row_below lanes points n p b f
 
-  pub from_is : r.from ≡ nearest from
-  unfolding both_of
-  from_is = ap (λ (x : NearestPair). x.from) e
+  module _ (from to : Point) (r : List (Option Nearest)) (e : r ≡ nearest from ∷ nearest to ∷ []) where
+    pub from_is : slice_index_or r 0 None ≡ nearest from
+    from_is = ap (λ (xs : List (Option Nearest)). slice_index_or xs 0 None) e
 
-  pub to_is : r.to ≡ nearest to
-  unfolding both_of
-  to_is = ap (λ (x : NearestPair). x.to) e
+    pub to_is : slice_index_or r 1 None ≡ nearest to
+    to_is = ap (λ (xs : List (Option Nearest)). slice_index_or xs 1 None) e
 
-  pub from_row : RowIn n r.from
-  from_row = row_near from r.from from_is
+    pub from_row : RowIn n (slice_index_or r 0 None)
+    from_row = row_near from (slice_index_or r 0 None) from_is
 
-  pub to_row : RowIn n r.to
-  to_row = row_near to r.to to_is
+    pub to_row : RowIn n (slice_index_or r 1 None)
+    to_row = row_near to (slice_index_or r 1 None) to_is

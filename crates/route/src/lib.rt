@@ -2,26 +2,32 @@
 // answered.
 #![tactic(auto)]
 
-ghost use Rattle.std.specs.Prelude.{◌≡◌, ◌∷◌, [], map, ◌&&◌, ◌*◌, ◌+◌, ◌<◌, ◌≤◌, length};
-ghost use Rattle.branches.specs.Tables.{AllLaid};
+ghost use Rattle.std.specs.Prelude.{◌≡◌, ◌&&◌, ◌∷◌, [], map, ◌*◌, ◌+◌, ◌<◌, ◌≤◌, length};
 ghost use Rattle.coords.specs.Coords.{finite_point, zero⁺};
 ghost use Rattle.geometry.specs.Over.{over};
 ghost use Rattle.network.specs.Tables.{lanes_from};
 ghost use Rattle.rows.specs.Rows.{lane_number};
 ghost use Rattle.sampling.specs.Kept.{first_of, flat};
-ghost use Rattle.sampling.specs.Passes.{AllLinked, PathRows};
+ghost use Rattle.sampling.specs.Passes.{PathRows};
 ghost use Rattle.sampling.specs.Sampling.{route_tables, sample_route};
-ghost use Rattle.search.specs.LaneGraph.{Readable, lane_graph, searched_in};
-ghost use Rattle.search.specs.LaneGraph as graph;
+ghost use Rattle.search.specs.Structs.{result_of};
 ghost use Rattle.search.specs.Search.{found};
 ghost use Rattle.route.specs.Route.{Routable, Routes, answer_of, between, fitted, followed, lengths_to, path_of, refusal, routed, suffices};
-ghost use Rattle.route.specs.Steps.{AllLong, RowIn};
+ghost use Rattle.route.specs.Structs.{answered, graph_in, tables_in};
+ghost use Rattle.route.specs.Steps.{RowIn};
 
+mod route_rows;
+
+use arrayvec::ArrayVec;
 use coords::Point;
+use nearest::Lanes;
 use network::Nearest;
-use search::Answer;
+use plan_format::Refusal;
+use route_rows::RouteRows;
+use search::{Graph, LanePath};
 
 // Document 01's number, 0 for an answer; how many lanes and points stand in the lists, and the length. All else is zero where refused.
+// C is given this struct, so a refusal is its number here.
 #[repr(C)]
 #[derive(Clone, Copy)]
 pub struct RouteAnswer {
@@ -43,276 +49,225 @@ pub fn refused(number: usize) -> RouteAnswer
     }
 }
 
-// Writes the length of each of n lanes.
-fn write_lengths(lanes: &[usize], n: usize, cumulative: &[f32], lengths: &mut [f32])
-    requires { AllLong lanes.now cumulative.now n × (n ≤ length lengths.old) }
-    ensures { lengths.new ≡ over (lengths_to lanes.now cumulative.now n) lengths.old }
-{
-    let mut i = 0;
-    while i < n {
-        lengths[i] = branches::lane_length(lanes, cumulative, i);
-        i += 1;
-    }
-}
-
-// The search from one lane to another, with the lengths in a list lent for them.
-fn search_with(
-    lanes: &[usize],
-    n: usize,
-    cumulative: &[f32],
-    fans: &[usize],
-    links: &[usize],
-    start: usize,
-    goal: usize,
-    lengths: &mut [f32],
-) -> Answer
-    requires { (start < n) × (goal < n) × AllLong lanes.now cumulative.now n × (6 * n ≤ length lanes.now)
-        × Readable (lane_graph n fans.now links.now (lengths_to lanes.now cumulative.now n)) × (n ≤ length lengths.old) }
-    ensures { result ≡ graph.answer_of (searched_in lanes.now (lane_graph n fans.now links.now
-        (lengths_to lanes.now cumulative.now n)) start goal) }
-{
-    write_lengths(lanes, n, cumulative, lengths);
-    search::lane_path(start, goal, n, lanes, fans, links, &lengths[..n])
-}
-
-// Whether the one lane is the route: the goal lies ahead on it.
-fn suffices(lanes: &[usize], start: usize, s: f32, goal: usize, t: f32) -> bool
-    requires { 6 * start + 5 < length lanes.now }
-    ensures { result ≡ suffices lanes.now start s goal t }
-{
-    if start == goal {
-        return sampling::ahead(lanes[6 * start + 2], s, t);
-    }
-    false
-}
-
-// The path of one lane.
-fn one_lane(start: usize) -> Answer
-    ensures { result ≡ graph.answer_of (found (start ∷ []) zero⁺) }
-{
-    let mut path = [0usize; 257];
-    path[0] = start;
-    Answer {
-        ok: true,
-        cost: 0.0,
-        count: 1,
-        path,
-    }
-}
-
-// Shortest lane path from `start` to `goal`, each a lane and a distance along its centerline.
-fn lane_path(
-    lanes: &[usize],
-    n: usize,
-    cumulative: &[f32],
-    fans: &[usize],
-    links: &[usize],
-    start: usize,
-    s: f32,
-    goal: usize,
-    t: f32,
-) -> Answer
-    requires { (start < n) × (goal < n) × AllLong lanes.now cumulative.now n × (6 * n ≤ length lanes.now)
-        × Readable (lane_graph n fans.now links.now (lengths_to lanes.now cumulative.now n)) }
-    ensures { result ≡ graph.answer_of (path_of lanes.now (lane_graph n fans.now links.now
-        (lengths_to lanes.now cumulative.now n)) start s goal t) }
-{
-    if suffices(lanes, start, s, goal, t) {
-        return one_lane(start);
-    }
-    let mut lengths = [0.0f32; 256];
-    search_with(lanes, n, cumulative, fans, links, start, goal, &mut lengths)
-}
-
-// Writes the numbers of a path's lanes.
-fn write_chain(lanes: &[usize], n: usize, path: &[usize], chain: &mut [usize])
-    requires { PathRows path.now n × (6 * n ≤ length lanes.now) × (length path.now ≤ length chain.old) }
-    ensures { chain.new ≡ over (map (lane_number lanes.now) path.now) chain.old }
-{
-    let mut k = 0;
-    while k < path.len() {
-        let row = path[k];
-        chain[k] = lanes[6 * row];
-        k += 1;
-    }
-}
-
-// How many points a path has; where there are over `room`, one more than that.
-fn count_points(
-    lanes: &[usize],
-    n: usize,
-    points: &[f32],
-    cumulative: &[f32],
-    fans: &[usize],
-    links: &[usize],
-    path: &[usize],
-    s: f32,
-    t: f32,
-    room: usize,
-) -> usize
-    requires { PathRows path.now n × AllLaid lanes.now n points.now cumulative.now × AllLinked fans.now n links.now
-        × (room < 18446744073709551615) }
-    ensures { result ≡ length (first_of (room + 1) (sample_route (route_tables lanes.now points.now cumulative.now
-        fans.now links.now) path.now s t)) }
-{
-    let mut none = [0.0f32; 1];
-    let kept = sampling::sample_route(
-        lanes, n, points, cumulative, fans, links, path, s, t, room, &mut none,
-    );
-    kept.count
-}
-
-// Writes the points of a path, which fit.
-fn write_points(
-    lanes: &[usize],
-    n: usize,
-    points: &[f32],
-    cumulative: &[f32],
-    fans: &[usize],
-    links: &[usize],
-    path: &[usize],
-    s: f32,
-    t: f32,
-    waypoints: &mut [f32],
-)
-    requires { PathRows path.now n × AllLaid lanes.now n points.now cumulative.now × AllLinked fans.now n links.now
-        × (3 * length (sample_route (route_tables lanes.now points.now cumulative.now fans.now links.now) path.now s t)
-        ≤ length waypoints.old) }
-    ensures { waypoints.new ≡ over (flat (sample_route (route_tables lanes.now points.now
-        cumulative.now fans.now links.now) path.now s t)) waypoints.old }
-{
-    let room = waypoints.len() / 3;
-    sampling::sample_route(
-        lanes, n, points, cumulative, fans, links, path, s, t, room, waypoints,
-    );
-}
-
-// The route along a path: nothing is written unless the whole of it fits.
-fn follow(
-    lanes: &[usize],
-    n: usize,
-    points: &[f32],
-    cumulative: &[f32],
-    fans: &[usize],
-    links: &[usize],
-    path: &[usize],
-    cost: f32,
-    s: f32,
-    t: f32,
-    chain: &mut [usize],
-    waypoints: &mut [f32],
-) -> RouteAnswer
-    requires { PathRows path.now n × Routable (route_tables lanes.now points.now cumulative.now fans.now links.now) n }
-    ensures { Routes (fitted (length chain.old) (length waypoints.old) (followed
-        (route_tables lanes.now points.now cumulative.now fans.now links.now) s t
-        (found path.now cost))) result chain.old chain.new waypoints.old waypoints.new }
-{
-    if chain.len() < path.len() {
-        return refused(14);
-    }
-    let room = waypoints.len() / 3;
-    let count = count_points(lanes, n, points, cumulative, fans, links, path, s, t, room);
-    if room < count {
-        return refused(14);
-    }
-    write_chain(lanes, n, path, chain);
-    write_points(
-        lanes, n, points, cumulative, fans, links, path, s, t, waypoints,
-    );
-    RouteAnswer {
-        number: 0,
-        lanes: path.len(),
-        points: count,
-        length: cost,
-    }
-}
-
-// The route from s on the lane `start` to t on the lane `goal`: its path is found, and followed.
-fn find_and_follow(
-    lanes: &[usize],
-    n: usize,
-    points: &[f32],
-    cumulative: &[f32],
-    fans: &[usize],
-    links: &[usize],
-    start: usize,
-    s: f32,
-    goal: usize,
-    t: f32,
-    chain: &mut [usize],
-    waypoints: &mut [f32],
-) -> RouteAnswer
-    requires { (start < n) × (goal < n) × Routable (route_tables lanes.now points.now cumulative.now fans.now links.now) n }
-    ensures { Routes (fitted (length chain.old) (length waypoints.old)
-        (followed (route_tables lanes.now points.now cumulative.now fans.now links.now) s t
-        (path_of lanes.now (lane_graph n fans.now links.now
-        (lengths_to lanes.now cumulative.now n)) start s goal t)))
-        result chain.old chain.new waypoints.old waypoints.new }
-{
-    let a = lane_path(lanes, n, cumulative, fans, links, start, s, goal, t);
-    if !a.ok {
-        return refused(11);
-    }
-    let count = a.count;
-    let cost = a.cost;
-    let path = a.path;
-    follow(
-        lanes,
-        n,
-        points,
-        cumulative,
-        fans,
-        links,
-        &path[..count],
-        cost,
-        s,
-        t,
-        chain,
-        waypoints,
-    )
-}
-
-// The route from the lane nearest to the first point to the one nearest to the second.
-fn between(
-    lanes: &[usize],
-    n: usize,
-    points: &[f32],
-    cumulative: &[f32],
-    fans: &[usize],
-    links: &[usize],
-    from: Nearest,
-    to: Nearest,
-    chain: &mut [usize],
-    waypoints: &mut [f32],
-) -> RouteAnswer
-    requires { RowIn n from × RowIn n to × Routable (route_tables lanes.now points.now cumulative.now fans.now links.now) n }
-    ensures { Routes (fitted (length chain.old) (length waypoints.old)
-        (between (route_tables lanes.now points.now cumulative.now fans.now links.now)
-        n from to)) result chain.old chain.new waypoints.old waypoints.new }
-{
-    let Nearest::Found(_, _, start, p) = from else {
-        return refused(10);
-    };
-    let Nearest::Found(_, _, goal, q) = to else {
-        return refused(10);
-    };
-    let s = p.s;
-    let t = q.s;
-    find_and_follow(
-        lanes, n, points, cumulative, fans, links, start, s, goal, t, chain, waypoints,
-    )
-}
-
 fn both_finite(from: Point, to: Point) -> bool
     ensures { result ≡ finite_point from && finite_point to }
 {
-    if from.is_finite() {
-        return to.is_finite();
+    from.is_finite() && to.is_finite()
+}
+
+// The path of one lane.
+fn one_lane(start: usize) -> LanePath
+    ensures { result_of (Some result) ≡ found (start ∷ []) zero⁺ }
+{
+    let mut lanes = ArrayVec::new();
+    lanes.push(start);
+    LanePath { lanes, cost: 0.0 }
+}
+
+impl RouteRows<'_> {
+    // The length of each lane.
+    fn lengths(&self) -> ArrayVec<f32, 256>
+        ensures { result.items ≡ lengths_to self.now.lanes.now self.now.cumulative.now self.now.n }
+    {
+        let mut lengths = ArrayVec::new();
+        for row in 0..self.n {
+            lengths.push(branches::lane_length(self.lanes, self.cumulative, row));
+        }
+        lengths
     }
-    false
+
+    // Whether the one lane is the route: the goal lies ahead on it.
+    fn suffices(&self, start: usize, s: f32, goal: usize, t: f32) -> bool
+        requires { start < self.now.n }
+        ensures { result ≡ suffices self.now.lanes.now start s goal t }
+    {
+        let lanes = self.lanes;
+        start == goal && sampling::ahead(lanes[6 * start + 2], s, t)
+    }
+
+    // Shortest lane path from `start` to `goal`, each a lane and a distance along its centerline.
+    fn lane_path(&self, start: usize, s: f32, goal: usize, t: f32) -> Option<LanePath>
+        requires { (start < self.now.n) × (goal < self.now.n) }
+        ensures { result_of result ≡ path_of self.now.lanes.now (graph_in self.now) start s goal t }
+    {
+        if self.suffices(start, s, goal, t) {
+            return Some(one_lane(start));
+        }
+        let lengths = self.lengths();
+        let graph = Graph {
+            count: self.n,
+            lanes: self.lanes,
+            fans: self.fans,
+            links: self.links,
+            lengths: &lengths,
+        };
+        graph.lane_path(start, goal)
+    }
+
+    // Writes the numbers of a path's lanes.
+    fn write_chain(&self, path: &[usize], chain: &mut [usize])
+        requires { PathRows path.now self.now.n × (length path.now ≤ length chain.old) }
+        ensures { chain.new ≡ over (map (lane_number self.now.lanes.now) path.now) chain.old }
+    {
+        let lanes = self.lanes;
+        for (k, row) in path.iter().enumerate() {
+            chain[k] = lanes[6 * *row];
+        }
+    }
+
+    // How many points a path has; where there are over `room`, one more than that.
+    fn count_points(&self, path: &[usize], s: f32, t: f32, room: usize) -> usize
+        requires { PathRows path.now self.now.n × (room < 18446744073709551615) }
+        ensures { result ≡ length (first_of (room + 1) (sample_route (tables_in self.now) path.now s t)) }
+    {
+        let kept = sampling::sample_route(
+            self.lanes,
+            self.n,
+            self.points,
+            self.cumulative,
+            self.fans,
+            self.links,
+            path,
+            s,
+            t,
+            room,
+            &mut [],
+        );
+        kept.count
+    }
+
+    // Writes the points of a path, which fit.
+    fn write_points(&self, path: &[usize], s: f32, t: f32, waypoints: &mut [f32])
+        requires { PathRows path.now self.now.n
+            × (3 * length (sample_route (tables_in self.now) path.now s t) ≤ length waypoints.old) }
+        ensures { waypoints.new ≡ over (flat (sample_route (tables_in self.now) path.now s t)) waypoints.old }
+    {
+        let room = waypoints.len() / 3;
+        sampling::sample_route(
+            self.lanes,
+            self.n,
+            self.points,
+            self.cumulative,
+            self.fans,
+            self.links,
+            path,
+            s,
+            t,
+            room,
+            waypoints,
+        );
+    }
+
+    // The route along a path: nothing is written unless the whole of it fits.
+    fn follow(
+        &self,
+        path: &[usize],
+        cost: f32,
+        s: f32,
+        t: f32,
+        chain: &mut [usize],
+        waypoints: &mut [f32],
+    ) -> Result<RouteAnswer, Refusal>
+        requires { PathRows path.now self.now.n }
+        ensures { Routes (fitted (length chain.old) (length waypoints.old)
+            (followed (tables_in self.now) s t (found path.now cost)))
+            (answered result) chain.old chain.new waypoints.old waypoints.new }
+    {
+        if chain.len() < path.len() {
+            return Err(Refusal::ShortList);
+        }
+        let room = waypoints.len() / 3;
+        let count = self.count_points(path, s, t, room);
+        if room < count {
+            return Err(Refusal::ShortList);
+        }
+        self.write_chain(path, chain);
+        self.write_points(path, s, t, waypoints);
+        Ok(RouteAnswer {
+            number: 0,
+            lanes: path.len(),
+            points: count,
+            length: cost,
+        })
+    }
+
+    // The route from s on the lane `start` to t on the lane `goal`: its path is found, and followed.
+    fn find_and_follow(
+        &self,
+        start: usize,
+        s: f32,
+        goal: usize,
+        t: f32,
+        chain: &mut [usize],
+        waypoints: &mut [f32],
+    ) -> Result<RouteAnswer, Refusal>
+        requires { (start < self.now.n) × (goal < self.now.n) }
+        ensures { Routes (fitted (length chain.old) (length waypoints.old)
+            (followed (tables_in self.now) s t (path_of self.now.lanes.now (graph_in self.now) start s goal t)))
+            (answered result) chain.old chain.new waypoints.old waypoints.new }
+    {
+        let Some(path) = self.lane_path(start, s, goal, t) else {
+            return Err(Refusal::NoChain);
+        };
+        self.follow(&path.lanes, path.cost, s, t, chain, waypoints)
+    }
+
+    // The route from the lane nearest to the first point to the one nearest to the second.
+    fn between(
+        &self,
+        from: Option<Nearest>,
+        to: Option<Nearest>,
+        chain: &mut [usize],
+        waypoints: &mut [f32],
+    ) -> Result<RouteAnswer, Refusal>
+        requires { RowIn self.now.n from × RowIn self.now.n to }
+        ensures { Routes (fitted (length chain.old) (length waypoints.old) (between (tables_in self.now) self.now.n from to))
+            (answered result) chain.old chain.new waypoints.old waypoints.new }
+    {
+        let Some(start) = from else {
+            return Err(Refusal::NoLaneDrives);
+        };
+        let Some(goal) = to else {
+            return Err(Refusal::NoLaneDrives);
+        };
+        self.find_and_follow(
+            start.row,
+            start.projection.s,
+            goal.row,
+            goal.projection.s,
+            chain,
+            waypoints,
+        )
+    }
+
+    // The route from one point to another.
+    fn route(
+        &self,
+        from: Point,
+        to: Point,
+        chain: &mut [usize],
+        waypoints: &mut [f32],
+    ) -> Result<RouteAnswer, Refusal>
+        ensures { Routes (fitted (length chain.old) (length waypoints.old)
+            (routed (tables_in self.now) self.now.n (lanes_from self.now.lanes.now self.now.points.now self.now.n 0) from to))
+            (answered result) chain.old chain.new waypoints.old waypoints.new }
+    {
+        if !both_finite(from, to) {
+            return Err(Refusal::NotFinite);
+        }
+        let lanes = Lanes {
+            rows: self.lanes,
+            count: self.n,
+            points: self.points,
+            cumulative: self.cumulative,
+        };
+        let [start, goal] = lanes.nearest_rows([from, to]);
+        self.between(start, goal, chain, waypoints)
+    }
 }
 
 // A route from one point to another over the n lanes of the tables: the numbers of its lanes in `chain`, x y z of its points in `waypoints`.
+// The tables come one by one, as C lends them.
 pub fn route(
     from: Point,
     to: Point,
@@ -331,13 +286,16 @@ pub fn route(
         n (lanes_from lanes.now points.now n 0) from to))
         result chain.old chain.new waypoints.old waypoints.new }
 {
-    if both_finite(from, to) {
-        let pair = nearest::nearest_rows(lanes, n, points, cumulative, from, to);
-        let a = pair.from;
-        let b = pair.to;
-        return between(
-            lanes, n, points, cumulative, fans, links, a, b, chain, waypoints,
-        );
+    let rows = RouteRows {
+        n,
+        lanes,
+        points,
+        cumulative,
+        fans,
+        links,
+    };
+    match rows.route(from, to, chain, waypoints) {
+        Ok(answer) => answer,
+        Err(refusal) => refused(refusal.number()),
     }
-    refused(9)
 }

@@ -1,10 +1,9 @@
 -- The lane graph as the plan's tables hold it, and the search over it in f32.
-use Rattle.std.specs.Prelude.{Bool, cond, false, true, List, [], ◌++◌, ◌∷◌, suc, zero, ℕ, ◌*◌, ◌+◌, ◌-◌, ◌<◌, ◌≤◌, ltb, Float, get_or, length, replicate}
+use Rattle.std.specs.Prelude.{cond, false, List, [], ◌++◌, ◌∷◌, suc, zero, ℕ, ◌*◌, ◌+◌, ◌<◌, ◌≤◌, ltb, Float, get_or, length}
 use Rattle.std.specs.Float.Ieee.{add, lt, of_bits}
 use Rattle.std.specs.Float.{binary32, inf, nan}
 use Rattle.rows.specs.Rows.{first_link, first_neighbour, lane_number, leads_to, neighbours, successors}
-use Rattle.search.specs.declared.Answer.{Answer}
-use Rattle.search.specs.Search.{Costs, Edge, Result, State, expanded, found, refused, searched, settled}
+use Rattle.search.specs.Search.{Costs, Edge, Result, State, expanded, searched, settled}
 
 -- the plan's tables `fans` and `links` (crate rows has the names of their entries), and the f32 length of each of `count` lanes
 pub record LaneGraph : Type 0 where
@@ -56,11 +55,3 @@ settled_in G u s = settled f32_costs (out G) u s
 -- the search from the lane `start` to the lane `goal`
 abbrev pub searched_in : List ℕ → LaneGraph → ℕ → ℕ → Result Float
 searched_in lanes G start goal = searched f32_costs (lane_number lanes) (out G) 256 G.count start goal
-
--- the answer of `lane_path`: the chain stands first in its list, zeros after it; all is zero where there is none
-abbrev pub answer : Bool → Float → ℕ → List ℕ → Answer
-answer ok cost count path = record { ok = ok; cost = cost; count = count; path = path }
-
-unfoldable pub answer_of : Result Float → Answer
-answer_of refused = answer false (of_bits binary32 0) 0 (replicate 257 0)
-answer_of (found chain cost) = answer true cost (length chain) (chain ++ replicate (257 - length chain) 0)

@@ -2,315 +2,185 @@
 // A lane is its row in the tables.
 #![tactic(auto)]
 
-ghost use Rattle.std.specs.Prelude.{false, ◌≡◌, ◌<◌, ◌≤◌, ◌-◌, ◌*◌, length};
-ghost use Rattle.std.specs.Float.{inf};
+ghost use Rattle.std.specs.Prelude.{IfSome, unwrap_or, ◌≡◌, ◌<◌, ◌≤◌, ◌-◌, ◌*◌, [], ◌∷◌, length};
 ghost use Rattle.rows.specs.Rows.{lane_number};
-ghost use Rattle.search.specs.Search.{blank, expanded, least_open, precedes, refused, relaxed};
-ghost use Rattle.search.specs.LaneGraph.{Readable, answer_of, edges, expanded_in, f32_costs, lane_graph, searched_in, settled_in};
-ghost use Rattle.search.specs.Loops.{Found, Holds, Rebuilt, Sized, front, state_of};
+ghost use Rattle.search.specs.Search.{blank, expanded, least_open, precedes, rebuild, relaxed};
+ghost use Rattle.search.specs.LaneGraph.{edges, expanded_in, f32_costs, searched_in, settled_in};
+ghost use Rattle.search.specs.Structs.{graph_of, least_in, mark, result_of, state_of};
+ghost use Rattle.search.specs.Loops.{Found};
+
+mod graph;
+mod state;
+
+use arrayvec::ArrayVec;
+pub use graph::Graph;
+use state::Search;
 
 // The cost of a lane change.
 const LANE_CHANGE_COST: f32 = 30.0;
 
-// The best cost to each lane, the lane it was reached from, and a mark. No heap is kept: the open lane of least `dist` is what the Rust would pop
-// (`heap_form`, crate optimality). `closed` is 1 for a lane that was taken and expanded.
-#[derive(Clone, Copy)]
-pub struct Search {
-    pub dist: [f32; 256],
-    pub prev: [u8; 256],
-    pub closed: [u8; 256],
-}
-
-// The distance of a lane without an entry.
-fn unreached() -> f32
-    ensures { result ≡ inf false }
-{
-    f32::from_bits(0x7f80_0000)
-}
-
-fn no_entries() -> Search
-    ensures { Holds result (blank f32_costs 256) }
-{
-    let top = unreached();
-    let dist = [top; 256];
-    Search {
-        dist,
-        prev: [0; 256],
-        closed: [0; 256],
-    }
-}
-
-// Lane `next` is reached from `lane` at the cost `nd`: kept only where that is less than what stands.
-fn relax(search: Search, lane: usize, next: usize, nd: f32) -> Search
-    requires { (lane < 256) × (next < 256) × Sized search }
-    ensures { Holds result (relaxed f32_costs lane next nd (state_of search)) }
-{
-    let mut s = search;
-    if nd < s.dist[next] {
-        s.dist[next] = nd;
-        s.prev[next] = lane as u8;
-    }
-    s
-}
-
-// The links in the rows from `first` to before `end`, all out of `lane`, which is reached at `cost`; each step costs `step`.
-fn relax_links(
-    search: Search,
-    lane: usize,
-    cost: f32,
-    step: f32,
-    count: usize,
-    links: &[usize],
-    first: usize,
-    end: usize,
-) -> Search
-    requires { (lane < 256) × Sized search × (count ≤ 256) × (first ≤ end) × (2 * end ≤ length links.now) }
-    ensures { Holds result (expanded f32_costs lane cost (edges links.now count step first (end - first)) (state_of search)) }
-{
-    let nd = cost + step;
-    let mut s = search;
-    let mut at = first;
-    while at < end {
-        let next = links[2 * at + 1];
-        if next < count {
-            s = relax(s, lane, next, nd);
+impl Search {
+    // The search before it begins: no lane has an entry.
+    fn new() -> Self
+        ensures { state_of result ≡ blank f32_costs 256 }
+    {
+        Search {
+            dist: [f32::INFINITY; 256],
+            prev: [0; 256],
+            closed: [false; 256],
         }
-        at += 1;
     }
-    s
+
+    // Lane `next` is reached from `lane` at the cost `nd`: kept only where that is less than what stands.
+    fn relax(&mut self, lane: usize, next: usize, nd: f32)
+        requires { (lane < 256) × (next < 256) }
+        ensures { state_of self.new ≡ relaxed f32_costs lane next nd (state_of self.old) }
+    {
+        if nd < self.dist[next] {
+            self.dist[next] = nd;
+            self.prev[next] = lane as u8;
+        }
+    }
+
+    // The lane path from `start` to `goal` through `prev`, which leaves `start` at least once, so a goal on the start lane comes back round
+    // to it.
+    fn reconstruct(&self, start: usize, goal: usize) -> ArrayVec<usize, 257>
+        requires { goal < 256 }
+        ensures { result.items ≡ rebuild 256 self.now.prev start goal (goal ∷ []) }
+    {
+        let mut path = ArrayVec::new();
+        path.push(goal);
+        let mut lane = goal;
+        for _ in 0..256usize {
+            lane = self.prev[lane] as usize;
+            path.push(lane);
+            if lane == start {
+                break;
+            }
+        }
+        path.reverse();
+        path
+    }
 }
 
-// Relax the links out of `lane`, reached at `cost`: successors cost the lane's length, lane changes a flat penalty.
-fn expand(
-    search: Search,
-    lane: usize,
-    cost: f32,
-    count: usize,
-    fans: &[usize],
-    links: &[usize],
-    lengths: &[f32],
-) -> Search
-    requires { (lane < count) × Sized search × Readable (lane_graph count fans.now links.now lengths.now) }
-    ensures { Holds result
-        (expanded_in (lane_graph count fans.now links.now lengths.now) lane cost (state_of search)) }
+// Whether a lane that is closed or not, with this distance and number, goes before the best one so far. Most lanes do not, by the first test.
+fn is_before(closed: bool, d: f32, x: usize, cost: f32, number: usize) -> bool
+    ensures { result ≡ precedes f32_costs (mark closed) d x cost number }
 {
-    let at = 5 * lane;
-    let first = fans[at];
-    let successors = fans[at + 1];
-    let predecessors = fans[at + 2];
-    let neighbours = fans[at + 3];
-    let mid = first + successors;
-    let last = mid + predecessors;
-    let s = relax_links(search, lane, cost, lengths[lane], count, links, first, mid);
-    relax_links(
-        s,
-        lane,
-        cost,
-        LANE_CHANGE_COST,
-        count,
-        links,
-        last,
-        last + neighbours,
-    )
-}
-
-// Whether a lane with this mark, distance and number goes before the best one so far. Most lanes do not, by the first test.
-fn is_before(mark: u8, d: f32, x: usize, cost: f32, number: usize) -> bool
-    ensures { result ≡ precedes f32_costs mark d x cost number }
-{
-    if (mark != 0) | (cost < d) {
+    if closed | (cost < d) {
         return false;
     }
     if d < cost {
         return true;
     }
-    let top = unreached();
-    if !(d < top) {
-        return false;
-    }
-    number < x
+    d < f32::INFINITY && number < x
 }
 
-// The open lane of least cost, the larger number among equals; 256 where none is open.
-fn least(search: Search, count: usize, lanes: &[usize]) -> usize
-    requires { Sized search × (count ≤ 256) × (6 * count ≤ length lanes.now) }
-    ensures { result ≡ least_open f32_costs (lane_number lanes.now) 256 (state_of search) count }
-{
-    let mut best: usize = 256;
-    let mut cost = unreached();
-    let mut number: usize = 0;
-    let mut i: usize = 0;
-    while i < count {
-        let mark = search.closed[i];
-        let d = search.dist[i];
-        let x = lanes[6 * i];
-        if is_before(mark, d, x, cost, number) {
-            best = i;
-            cost = d;
-            number = x;
-        }
-        i += 1;
-    }
-    best
-}
-
-// Lane `u` is closed: marked, and its links relaxed at its distance.
-fn settle(
-    search: Search,
-    u: usize,
-    count: usize,
-    fans: &[usize],
-    links: &[usize],
-    lengths: &[f32],
-) -> Search
-    requires { (u < count) × Sized search × Readable (lane_graph count fans.now links.now lengths.now) }
-    ensures { Holds result (settled_in (lane_graph count fans.now links.now lengths.now) u (state_of search)) }
-{
-    let mut s = search;
-    s.closed[u] = 1;
-    let cost = s.dist[u];
-    expand(s, u, cost, count, fans, links, lengths)
-}
-
-// Where the search ended: whether the goal is the least open lane, and the last state.
-#[derive(Clone, Copy)]
-pub struct Ended {
-    pub ok: bool,
-    pub search: Search,
-}
-
-// The least open lane is settled, turn by turn, until it is the goal or there is none. A turn settles one of at most 256 lanes, so the 257th finds none
-// open.
-fn find(
-    search: Search,
-    goal: usize,
-    count: usize,
-    lanes: &[usize],
-    fans: &[usize],
-    links: &[usize],
-    lengths: &[f32],
-) -> Ended
-    requires { Sized search × (6 * count ≤ length lanes.now) × Readable (lane_graph count fans.now links.now lengths.now) }
-    ensures { Found lanes.now (lane_graph count fans.now links.now lengths.now) goal search result }
-{
-    let mut s = search;
-    let mut turns: usize = 257;
-    while 0 < turns {
-        let u = least(s, count, lanes);
-        if u == 256 {
-            return Ended {
-                ok: false,
-                search: s,
-            };
-        }
-        if u == goal {
-            return Ended {
-                ok: true,
-                search: s,
-            };
-        }
-        s = settle(s, u, count, fans, links, lengths);
-        turns -= 1;
-    }
-    Ended {
-        ok: false,
-        search: s,
-    }
-}
-
-// A chain of lanes: those of `lanes` from `at` on.
-#[derive(Clone, Copy)]
-pub struct Path {
-    pub at: usize,
-    pub lanes: [usize; 257],
-}
-
-// The lane path from `start` to `goal` through `prev`, which leaves `start` at least once, so a goal on the start lane comes back round
-// to it. It is written from the end of the list on.
-fn reconstruct(search: Search, start: usize, goal: usize) -> Path
-    requires { Sized search × (goal < 256) }
-    ensures { Rebuilt search.prev start goal result.at result.lanes }
-{
-    let mut lanes = [0usize; 257];
-    lanes[256] = goal;
-    let mut cur = goal;
-    let mut k: usize = 256;
-    while 0 < k {
-        cur = search.prev[cur] as usize;
-        k -= 1;
-        lanes[k] = cur;
-        if cur == start {
-            return Path { at: k, lanes };
-        }
-    }
-    Path { at: k, lanes }
-}
-
-// The entries of `path` from `at` on, moved to the front; zeros follow.
-fn to_front(path: Path) -> [usize; 257]
-    requires { (path.at ≤ 256) × (length path.lanes ≡ 257) }
-    ensures { result ≡ front path.lanes path.at (257 - path.at) }
-{
-    let at = path.at;
-    let mut out = [0usize; 257];
-    let mut i: usize = 0;
-    while at + i < 257 {
-        out[i] = path.lanes[at + i];
-        i += 1;
-    }
-    out
-}
-
-// A route's lanes, `count` of them at the front of `path`, and its search cost; all zero where there is none.
-#[derive(Clone, Copy)]
-pub struct Answer {
-    pub ok: bool,
+// A route's lanes, and its search cost.
+#[derive(Drop)]
+pub struct LanePath {
+    pub lanes: ArrayVec<usize, 257>,
     pub cost: f32,
-    pub count: usize,
-    pub path: [usize; 257],
 }
 
-fn no_path() -> Answer
-    ensures { result ≡ answer_of refused }
-{
-    Answer {
-        ok: false,
-        cost: 0.0,
-        count: 0,
-        path: [0; 257],
+impl Graph<'_> {
+    // The links in the rows from `first` to before `end`, all out of `lane`, which is reached at `cost`; each step costs `step`.
+    fn relax_links(
+        &self,
+        mut search: Search,
+        lane: usize,
+        cost: f32,
+        step: f32,
+        first: usize,
+        end: usize,
+    ) -> Search
+        requires { (lane < 256) × (first ≤ end) × (2 * end ≤ length self.now.links.now) }
+        ensures { state_of result
+            ≡ expanded f32_costs lane cost (edges self.now.links.now self.now.count step first (end - first)) (state_of search) }
+    {
+        let nd = cost + step;
+        let links = self.links;
+        for at in first..end {
+            let next = links[2 * at + 1];
+            if next < self.count {
+                search.relax(lane, next, nd);
+            }
+        }
+        search
     }
-}
 
-// The Rust's `lane_path` after its one-lane case, which is crate route's: the cheapest chain of links from `start` to `goal`, which leaves `start`
-// at least once.
-pub fn lane_path(
-    start: usize,
-    goal: usize,
-    count: usize,
-    lanes: &[usize],
-    fans: &[usize],
-    links: &[usize],
-    lengths: &[f32],
-) -> Answer
-    requires { (start < count) × (goal < count) × (6 * count ≤ length lanes.now)
-        × Readable (lane_graph count fans.now links.now lengths.now) }
-    ensures { result ≡ answer_of
-        (searched_in lanes.now (lane_graph count fans.now links.now lengths.now) start goal) }
-{
-    let none = no_entries();
-    let first = expand(none, start, 0.0, count, fans, links, lengths);
-    let e = find(first, goal, count, lanes, fans, links, lengths);
-    if !e.ok {
-        return no_path();
+    // Relax the links out of `lane`, reached at `cost`: successors cost the lane's length, lane changes a flat penalty.
+    fn expand(&self, search: Search, lane: usize, cost: f32) -> Search
+        requires { lane < self.now.count }
+        ensures { state_of result ≡ expanded_in (graph_of self.now) lane cost (state_of search) }
+    {
+        let fans = self.fans;
+        let lengths = self.lengths;
+        let at = 5 * lane;
+        let first = fans[at];
+        let mid = first + fans[at + 1];
+        let last = mid + fans[at + 2];
+        let s = self.relax_links(search, lane, cost, lengths[lane], first, mid);
+        self.relax_links(s, lane, cost, LANE_CHANGE_COST, last, last + fans[at + 3])
     }
-    let s = e.search;
-    let cost = s.dist[goal];
-    let path = reconstruct(s, start, goal);
-    let at = path.at;
-    Answer {
-        ok: true,
-        cost,
-        count: 257 - at,
-        path: to_front(path),
+
+    // The open lane of least cost, the larger number among equals.
+    fn least(&self, search: &Search) -> Option<usize>
+        ensures row { unwrap_or result 256 ≡ least_in self.now (state_of search.now) }
+        ensures within { IfSome result (λ u. u < self.now.count) }
+    {
+        let lanes = self.lanes;
+        let mut best = None;
+        let mut cost = f32::INFINITY;
+        let mut number = 0;
+        for i in 0..self.count {
+            let d = search.dist[i];
+            let x = lanes[6 * i];
+            if is_before(search.closed[i], d, x, cost, number) {
+                best = Some(i);
+                cost = d;
+                number = x;
+            }
+        }
+        best
+    }
+
+    // Lane `u` is closed: marked, and its links relaxed at its distance.
+    fn settle(&self, mut search: Search, u: usize) -> Search
+        requires { u < self.now.count }
+        ensures { state_of result ≡ settled_in (graph_of self.now) u (state_of search) }
+    {
+        search.closed[u] = true;
+        let cost = search.dist[u];
+        self.expand(search, u, cost)
+    }
+
+    // The least open lane is settled, turn by turn, until it is the goal: the last state then, and none where no lane is open before. A turn settles
+    // one of at most 256 lanes, so the 257th finds none open.
+    fn find(&self, mut search: Search, goal: usize) -> Option<Search>
+        ensures { Found self.now goal search result }
+    {
+        for _ in 0..257usize {
+            let u = self.least(&search)?;
+            if u == goal {
+                return Some(search);
+            }
+            search = self.settle(search, u);
+        }
+        None
+    }
+
+    // The Rust's `lane_path` after its one-lane case, which is crate route's: the cheapest chain of links from `start` to `goal`, which leaves
+    // `start` at least once.
+    pub fn lane_path(&self, start: usize, goal: usize) -> Option<LanePath>
+        requires { (start < self.now.count) × (goal < self.now.count) }
+        ensures { result_of result ≡ searched_in self.now.lanes.now (graph_of self.now) start goal }
+    {
+        let opened = self.expand(Search::new(), start, 0.0);
+        let search = self.find(opened, goal)?;
+        Some(LanePath {
+            lanes: search.reconstruct(start, goal),
+            cost: search.dist[goal],
+        })
     }
 }

@@ -1,5 +1,5 @@
 -- A refusal, by computation.
-use mathlib.Core.Path.{refl}
+use Rattle.std.proofs.Common.{refl}
 use Rattle.route.specs.Route.{answer_of}
 use Rattle.route.proofs.refused.Goals as goal
 
