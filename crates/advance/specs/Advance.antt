@@ -1,6 +1,6 @@
 -- advance.rs, `advance`: every place a distance on along the lanes: the first branches, what a run from them answers, and the numbers of a
 -- refusal. `specs/` of `explore` says how a run goes on. Definitions only.
-use Rattle.std.specs.Prelude.{◌≡◌, Bool, true, false, cond, not, ◌&&◌, List, [], ◌∷◌, ◌++◌, ℕ, ◌*◌, eqb, ltb, leb, length, Float}
+use Rattle.std.specs.Prelude.{◌≡◌, Bool, true, false, cond, not, ◌&&◌, List, [], ◌∷◌, ◌++◌, ℕ, ◌*◌, eqb, ltb, leb, length, Float, Result, Ok, Err}
 use Rattle.std.specs.Float.{binary64}
 use Rattle.std.specs.Float.Ieee.{mul, le}
 use Rattle.std.specs.Float.Ieee.Scale.{finite}
@@ -8,6 +8,8 @@ use Rattle.float.specs.Sign.{abs_of}
 use Rattle.geometry.specs.Over.{over}
 use Rattle.road.specs.Along.{along_of}
 use Rattle.rows.specs.Rows.{direction_of, place_of, placed_section, points_of, stations_of}
+use Rattle.plan_format.specs.declared.Refusal.{Refusal}
+use Rattle.plan_format.specs.Refusals.{number_of}
 use Rattle.plan_find.specs.FirstRow.{first_row, is_lane}
 use Rattle.beside.specs.declared.LanePosition.{LanePosition}
 use Rattle.beside.specs.Beside.{in_section, zero64}
@@ -65,6 +67,11 @@ pub record Answer : Type 0 where
 -- the number of a refusal; all else is zero, and the lists stay
 abbrev pub refusal : ℕ → Advanced
 refusal number = record { number = number; keys = 0; positions = 0 }
+
+-- the answer of a search
+abbrev pub advanced_of : Result Advanced Refusal → Advanced
+advanced_of (Ok a) = a
+advanced_of (Err e) = refusal (number_of e)
 
 abbrev pub refused_with : ℕ → List ℕ → List Float → Answer
 refused_with number rows metres = record { advanced = refusal number; rows = rows; metres = metres }

@@ -13,14 +13,12 @@ use Rattle.geometry.specs.Partition.{leading}
 use Rattle.geometry.specs.Locate.{segment_of, local_t, locate_of, point_along}
 use Rattle.geometry.specs.Project.{left_normal, fraction_along, hit_along, nearer_at, project_to, project_segments}
 use Rattle.road.specs.Along.{fraction_at, along_of, reached_by, part_of, station_on, station_of}
-use Rattle.plan_format.specs.declared.LaneId.{LaneId}
 use Rattle.plan_format.specs.Plan.{Plan, index_of}
 use Rattle.plan_format.specs.Records.{Lane, Link, Place, Section}
 use Rattle.plan_format.specs.Tables.{linked, plan_rows, rows, rows_from}
 use Rattle.tables.specs.LaneTables.{lane_rows}
 use Rattle.beside.specs.declared.LanePosition.{LanePosition}
 use Rattle.plan_find.specs.FirstRow.{first_row}
-use Rattle.advance.specs.declared.Advanced.{Advanced}
 use Rattle.branches.specs.Tables.{led_to}
 use Rattle.branches.specs.Branches.{millimetres, at_end, is_next, kept, next_lanes, up_on, branch_onto, key_of, holds}
 use Rattle.explore.specs.Explore.{follow, step_from, run}

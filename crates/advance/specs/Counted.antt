@@ -11,9 +11,10 @@ use Rattle.beside.specs.Beside.{zero64}
 use Rattle.branches.specs.declared.Branch.{Branch}
 use Rattle.branches.specs.Tables.{Tables}
 use Rattle.branches.specs.Branches.{room_of, leaving_of, next_lanes}
-use Rattle.branches.specs.Front.{Front, enter_all, is_empty}
+use Rattle.branches.specs.Front.{enter_all, is_empty}
 use Rattle.branches.specs.FrontLaws.{once, Grown, grown_same, grown_all}
-use Rattle.explore.specs.Explore.{State, place_in, pick_state, follow, with_todo, step_from, step, goes_on, run}
+use Rattle.ends.specs.Ends.{place_in}
+use Rattle.explore.specs.Explore.{State, pick_state, follow, with_todo, step_from, step, goes_on, run}
 use Rattle.advance.specs.Advance.{none_yet}
 use Rattle.advance.specs.Advance.{first_branch, pick_branches, first_branches, explored}
 

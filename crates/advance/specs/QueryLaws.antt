@@ -1,53 +1,45 @@
 -- What the code of the query makes of a run: its first branches, its answer, and the lists written.
-use Rattle.std.specs.Prelude.{◌≡◌, refl, Bool, true, false, not, ℕ, ◌+◌, ◌*◌, ◌<◌, ◌≤◌, Float}
+use Rattle.std.specs.Prelude.{◌≡◌, refl, Bool, true, false, not, ℕ, ◌+◌, ◌*◌, ◌<◌, ◌≤◌, set, Float}
 use Rattle.std.proofs.Math.Path.{sym, ap}
-use Rattle.std.proofs.Common.{◌∙◌, add-one, arith, length-append}
-use mathlib.Core.List.{List, [], ◌∷◌, ◌++◌}
+use Rattle.std.proofs.Common.{◌∙◌, arith, length-append}
+use mathlib.Core.List.{List, [], ◌∷◌}
 use Rattle.std.proofs.Math.ListN.{length}
-use Rattle.std.specs.Float.Ieee.{nan, le}
+use Rattle.std.specs.Float.Ieee.{le}
 use Rattle.std.specs.Float.Ieee.Scale.{finite}
 use borrow.Author.Tests.{eq-eqb, ne_eqb, lt-ltb, le-ltb, lt-leb, le-leb}
 use Rattle.geometry.specs.Over.{over, over_three, over_two}
 use Rattle.road.specs.Along.{along_of}
-use Rattle.plan_format.specs.declared.LaneId.{LaneId}
 use Rattle.beside.specs.declared.LanePosition.{LanePosition}
 use Rattle.rows.specs.Rows.{direction_of, place_of, placed_section, points_of, stations_of}
 use Rattle.plan_find.specs.FirstRow.{first_row, is_lane}
 use Rattle.beside.specs.Beside.{in_section, zero64}
 use Rattle.branches.specs.declared.Branch.{Branch}
-use Rattle.branches.specs.declared.Key.{Key}
-use Rattle.ends.specs.declared.Placing.{Placing}
 use Rattle.ends.specs.declared.Advance.{Advance}
 use Rattle.advance.specs.declared.Advanced.{Advanced}
 use Rattle.branches.specs.Tables.{Tables}
 use Rattle.explore.specs.Explore.{State, run_from}
-use Rattle.advance.specs.Advance.{none_yet, first_branch, first_branches, explored, rows_of, case_row, metre_row, Answer}
+use Rattle.advance.specs.Advance.{none_yet, first_branch, first_branches, explored, rows_of, case_row, metre_row}
 use Rattle.advance.specs.Advance.{refusal, answered_by, answered, AnswerOf, advance_row, advance_rows}
 use Rattle.ends.specs.Ends.{case_of, position_of, short_of}
-use Rattle.branches.specs.Held.{held_by}
-use Rattle.branches.specs.HeldLaws.{held_length}
-use Rattle.branches.specs.Rows.{two, three}
 
 -- ---- the first branches
 module _ (lanes : List ℕ) (ahead : Bool) (i : ℕ) (arc offset distance : Float) where
   abbrev branch : Bool → Branch
   branch up = first_branch ahead i arc offset distance up
 
-  pub start_both : direction_of lanes i ≡ 2 → (f g h : ℕ → Branch) (b c : Branch) → b ≡ branch false → c ≡ branch true
-      → held_by g 1 ≡ b ∷ held_by h 0 → held_by f 2 ≡ c ∷ held_by g 1
-      → held_by f 2 ≡ first_branches lanes ahead i arc offset distance
-  unfolding first_branches held_by
-  start_both d f g h b c e₁ e₂ p₁ p₂ = p₂ ∙ ap (λ (l : List Branch). c ∷ l) p₁ ∙ sym (rw (eq-eqb (direction_of lanes i) 2 d, ← e₁, ← e₂))
+  pub start_both : direction_of lanes i ≡ 2 → branch true ∷ branch false ∷ [] ≡ first_branches lanes ahead i arc offset distance
+  unfolding first_branches
+  start_both d = sym (rw (eq-eqb (direction_of lanes i) 2 d))
 
-  module _ (one_way : direction_of lanes i ≡ 2 → ⊥) (f h : ℕ → Branch) (b : Branch) (p : held_by f 1 ≡ b ∷ held_by h 0) where
-    pub start_forward : direction_of lanes i ≡ 0 → b ≡ branch ahead → held_by f 1 ≡ first_branches lanes ahead i arc offset distance
-    unfolding first_branches held_by
-    start_forward d e = p ∙ sym (rw (ne_eqb (direction_of lanes i) 2 one_way, eq-eqb (direction_of lanes i) 0 d, ← e))
+  pub start_forward : direction_of lanes i ≡ 0 → branch ahead ∷ [] ≡ first_branches lanes ahead i arc offset distance
+  unfolding first_branches
+  start_forward d =
+      sym (rw (ne_eqb (direction_of lanes i) 2 (λ e. absurd (omega (arith, d, e))), eq-eqb (direction_of lanes i) 0 d))
 
-    pub start_backward : (direction_of lanes i ≡ 0 → ⊥) → b ≡ branch (not ahead)
-        → held_by f 1 ≡ first_branches lanes ahead i arc offset distance
-    unfolding first_branches held_by
-    start_backward d e = p ∙ sym (rw (ne_eqb (direction_of lanes i) 2 one_way, ne_eqb (direction_of lanes i) 0 d, ← e))
+  pub start_backward : (direction_of lanes i ≡ 2 → ⊥) → (direction_of lanes i ≡ 0 → ⊥)
+      → branch (not ahead) ∷ [] ≡ first_branches lanes ahead i arc offset distance
+  unfolding first_branches
+  start_backward e d = sym (rw (ne_eqb (direction_of lanes i) 2 e, ne_eqb (direction_of lanes i) 0 d))
 
 -- ---- the lists
 rows_length : {A : Type 0} (row : Advance → List A) (w : ℕ) → ((a : Advance) → length (row a) ≡ w) → (xs : List Advance)
@@ -56,38 +48,30 @@ unfolding rows_of
 rows_length row w e [] = omega arith
 rows_length row w e (x ∷ xs) = let r = rows_length row w e xs in let n = e x in let l = length-append (rows_of row xs) (row x) in omega arith
 
-module _ (f : ℕ → Advance) (i : ℕ) (a : Advance) (is : a ≡ f i) where
-  pub cases_next : (old out : List ℕ) → out ≡ over (rows_of case_row (held_by f i)) old → 2 * i + 1 < length old
-      → two out (2 * i) 0 (case_of a) (position_of a).lane.0 ≡ over (rows_of case_row (held_by f (i + 1))) old
-  unfolding rows_of held_by
+module _ (xs : List Advance) (a : Advance) (i : ℕ) (long : length xs ≡ i) where
+  pub cases_next : (old out : List ℕ) → out ≡ over (rows_of case_row xs) old → 2 * i + 1 < length old
+      → set (set out (2 * i) (case_of a)) (2 * i + 1) (position_of a).lane.0 ≡ over (rows_of case_row (a ∷ xs)) old
+  unfolding rows_of
   cases_next old out e h =
-      let size : length (rows_of case_row (held_by f i))
-      ≡ 2 * i = rows_length case_row 2 (λ _. refl) (held_by f i) ∙ ap (λ (n : ℕ). 2 * n) (held_length f i) in
-      ap (λ (o : List ℕ). two o (2 * i) 0 (case_of a) (position_of a).lane.0) e
-      ∙ over_two (rows_of case_row (held_by f i)) old (2 * i) (case_of a) (position_of a).lane.0 size h
-      ∙ ap (λ (x : Advance). over (rows_of case_row (held_by f i) ++ case_row x) old) is
-      ∙ ap (λ (n : ℕ). over (rows_of case_row (held_by f n)) old) (sym (add-one i))
+      let size : length (rows_of case_row xs) ≡ 2 * i = rows_length case_row 2 (λ _. refl) xs ∙ ap (λ (n : ℕ). 2 * n) long in
+      ap (λ (o : List ℕ). set (set o (2 * i) (case_of a)) (2 * i + 1) (position_of a).lane.0) e
+      ∙ over_two (rows_of case_row xs) old (2 * i) (case_of a) (position_of a).lane.0 size h
 
-  pub metres_next : (old out : List Float) → out ≡ over (rows_of metre_row (held_by f i)) old → 3 * i + 2 < length old
-      → three out (3 * i) nan (position_of a).s (position_of a).offset (short_of a) ≡ over (rows_of metre_row (held_by f (i + 1))) old
-  unfolding rows_of held_by
+  pub metres_next : (old out : List Float) → out ≡ over (rows_of metre_row xs) old → 3 * i + 2 < length old
+      → set (set (set out (3 * i) (position_of a).s) (3 * i + 1) (position_of a).offset) (3 * i + 2) (short_of a)
+      ≡ over (rows_of metre_row (a ∷ xs)) old
+  unfolding rows_of
   metres_next old out e h =
-      let size : length (rows_of metre_row (held_by f i))
-      ≡ 3 * i = rows_length metre_row 3 (λ _. refl) (held_by f i) ∙ ap (λ (n : ℕ). 3 * n) (held_length f i) in
-      ap (λ (o : List Float). three o (3 * i) nan (position_of a).s (position_of a).offset (short_of a)) e
-      ∙ over_three (rows_of metre_row (held_by f i)) old (3 * i) (position_of a).s (position_of a).offset (short_of a) size h
-      ∙ ap (λ (x : Advance). over (rows_of metre_row (held_by f i) ++ metre_row x) old) is
-      ∙ ap (λ (n : ℕ). over (rows_of metre_row (held_by f n)) old) (sym (add-one i))
+      let size : length (rows_of metre_row xs) ≡ 3 * i = rows_length metre_row 3 (λ _. refl) xs ∙ ap (λ (n : ℕ). 3 * n) long in
+      ap (λ (o : List Float). set (set (set o (3 * i) (position_of a).s) (3 * i + 1) (position_of a).offset) (3 * i + 2) (short_of a)) e
+      ∙ over_three (rows_of metre_row xs) old (3 * i) (position_of a).s (position_of a).offset (short_of a) size h
 
-pub nothing_written : {A : Type 0} (row : Advance → List A) (f : ℕ → Advance) (old : List A) → old ≡ over (rows_of row (held_by f 0)) old
-unfolding rows_of held_by
-nothing_written row f old = refl
+pub nothing_written : {A : Type 0} (row : Advance → List A) (old : List A) → old ≡ over (rows_of row []) old
+unfolding rows_of
+nothing_written row old = refl
 
 -- ---- the answer
-module _ (full : Bool) (keys n : ℕ) (f : ℕ → Advance) (rows : List ℕ) (metres : List Float) where
-  abbrev out : List Advance
-  out = held_by f n
-
+module _ (full : Bool) (keys n : ℕ) (out : List Advance) (rows : List ℕ) (metres : List Float) (size : length out ≡ n) where
   pub answered_full : (r : Advanced) → r ≡ refusal 14 → full ≡ true → AnswerOf r rows metres (answered_by full keys out rows metres)
   unfolding answered_by
   answered_full r e h = rw (e, h)
@@ -97,7 +81,6 @@ module _ (full : Bool) (keys n : ℕ) (f : ℕ → Advance) (rows : List ℕ) (m
         → AnswerOf r rows metres (answered_by full keys out rows metres)
     unfolding answered_by
     answered_short_cases r e h =
-        let size = held_length f n in
         rw (e, fits, lt-leb (2 * length out) (length rows) (omega arith))
 
     module _ (cases_fit : 2 * n ≤ length rows) where
@@ -105,7 +88,6 @@ module _ (full : Bool) (keys n : ℕ) (f : ℕ → Advance) (rows : List ℕ) (m
           → AnswerOf r rows metres (answered_by full keys out rows metres)
       unfolding answered_by
       answered_short_metres r e h =
-          let size = held_length f n in
           rw (e, fits, le-leb (2 * length out) (length rows) (omega arith), lt-leb (3 * length out) (length metres) (omega arith))
 
       pub answered_whole : 3 * n ≤ length metres → (rows' : List ℕ) (metres' : List Float) → rows' ≡ over (rows_of case_row out) rows
@@ -113,7 +95,6 @@ module _ (full : Bool) (keys n : ℕ) (f : ℕ → Advance) (rows : List ℕ) (m
           → AnswerOf (record { number = 0; keys = keys; positions = n }) rows' metres' (answered_by full keys out rows metres)
       unfolding answered_by
       answered_whole h rows' metres' p q =
-          let size = held_length f n in
           sym (rw (
             fits,
             le-leb (2 * length out) (length rows) (omega arith),
@@ -133,23 +114,6 @@ module _ (t : Tables) (i : ℕ) (arc offset distance : Float) (ahead : Bool) (fo
   unfolding explored
   explored_by start q e h = h ∙ ap (run_from t ahead 1026) e ∙ ap
       (λ (b : Bool). run_from t b 1026 (none_yet (first_branches t.lanes b i arc offset distance))) forward
-
-  pub fresh_is : (f : ℕ → Branch) (g : ℕ → Key) (h : ℕ → Placing) (k : ℕ → Advance) (n : ℕ) → held_by f n ≡ branches
-      → ◌≡◌ {A = State}
-      (record {
-        front = record { todo = held_by f n; entered = held_by g 0; full = false };
-        found = record { placed = held_by h 0; out = held_by k 0 };
-      })
-      (none_yet branches)
-  unfolding held_by
-  fresh_is f g h k n e = rw e
-
-pub answered_is : (q e : State) (r : Advanced) (rows rows' : List ℕ) (metres metres' : List Float) (keys : ℕ) → q ≡ e
-    → length q.front.entered ≡ keys
-    → AnswerOf r rows' metres' (answered_by q.front.full keys q.found.out rows metres)
-    → AnswerOf r rows' metres' (answered e rows metres)
-answered_is q e r rows rows' metres metres' keys h size p =
-    p ∙ ap (λ (k : ℕ). answered_by q.front.full k q.found.out rows metres) (sym size) ∙ ap (λ (x : State). answered x rows metres) h
 
 -- ---- the query, from the row of the position's lane
 module _ (t : Tables) (bounds : List Float) (from : LanePosition) (distance : Float) (rows : List ℕ) (metres : List Float) (i : ℕ)

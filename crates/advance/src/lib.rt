@@ -1,21 +1,23 @@
-// advance.rs, `advance`: every place a distance on from a lane position along the lanes, one for each branch. The plan stands in flat tables;
-// `specs/Tables.antt` of `branches` says what a row has. `specs/Advance.antt` says what is answered.
+// advance.rs, `advance`: every place a distance on from a lane position along the lanes, one for each branch. `specs/Advance.antt` says what is
+// answered.
 #![tactic(auto)]
 
-ghost use Rattle.std.specs.Prelude.{◌≡◌, ◌+◌, ◌*◌, ◌<◌, ◌≤◌, length};
+ghost use Rattle.std.specs.Prelude.{◌≡◌, ◌*◌, ◌<◌, ◌≤◌, [], length, reverse};
 ghost use Rattle.geometry.specs.Over.{over};
-ghost use Rattle.road.specs.Along.{Stationed, along_of};
-ghost use Rattle.rows.specs.Rows.{end_station, points_of, arcs_of, stations_of};
-ghost use Rattle.branches.specs.Tables.{tables, Tabled, Laid, Bounded};
+ghost use Rattle.road.specs.Along.{along_of};
+ghost use Rattle.rows.specs.Rows.{place_of, placed_section, points_of, stations_of};
+ghost use Rattle.branches.specs.Tables.{Bounded};
+ghost use Rattle.branches.specs.Held.{tables_of};
+ghost use Rattle.explore.specs.Held.{state_of};
 ghost use Rattle.advance.specs.Advance.{first_branch, first_branches, explored, rows_of, case_row, metre_row};
-ghost use Rattle.advance.specs.Advance.{refusal, answered_by, answered};
+ghost use Rattle.advance.specs.Advance.{refusal, advanced_of, answered};
 ghost use Rattle.advance.specs.Advance.{AnswerOf, advance_rows};
-ghost use Rattle.branches.specs.Held.{held_by, branch_at, FrontRoom};
-ghost use Rattle.ends.specs.Held.{advance_at, FoundRoom};
 
-use beside::LanePosition;
-use branches::{Branch, Flight};
-use explore::Progress;
+use beside::{Direction, LanePosition};
+use branches::{Branch, Front, Lanes, Plan};
+use ends::{Advance, Found};
+use explore::State;
+use plan_format::Refusal;
 
 // What `advance` answers: document 01's number, how many keys were entered, and how many positions stand in the lists.
 #[repr(C)]
@@ -24,6 +26,28 @@ pub struct Advanced {
     pub number: usize,
     pub keys: usize,
     pub positions: usize,
+}
+
+impl From<Result<Advanced, Refusal>> for Advanced {
+    ghost from_gives = { λ found answer. answer ≡ advanced_of found };
+
+    fn from(found: Result<Advanced, Refusal>) -> Advanced {
+        match found {
+            Ok(answer) => answer,
+            Err(refusal) => refused(refusal.number()),
+        }
+    }
+}
+
+// An answer without positions.
+pub fn refused(number: usize) -> Advanced
+    ensures { result ≡ refusal number }
+{
+    Advanced {
+        number,
+        keys: 0,
+        positions: 0,
+    }
 }
 
 // The first branch from lane i that moves `up` it.
@@ -39,321 +63,152 @@ fn first_branch(ahead: bool, i: usize, arc: f32, offset: f64, distance: f64, up:
     }
 }
 
-// Puts the first branches in flight: one with the traffic of lane i, or one each way; answers how many.
+// Puts the first branches in flight: one with the traffic of lane i, or one each way, of which that up the centerline is taken first.
 fn start(
-    lanes: &[usize],
+    front: &mut Front,
+    lanes: &Lanes,
     ahead: bool,
     i: usize,
     arc: f32,
     offset: f64,
     distance: f64,
-    todo: &mut [usize],
-    arcs: &mut [f32],
-    metres: &mut [f64],
-) -> usize
-    requires { (6 * i + 5 < length lanes.now) × (2052 ≤ length todo.old) × (1026 ≤ length arcs.old)
-        × (2052 ≤ length metres.old) }
-    ensures { (result ≤ 2) × (held_by (branch_at todo.new arcs.new metres.new) result
-        ≡ first_branches lanes.now ahead i arc offset distance) }
+)
+    requires { (i < lanes.now.count) × (front.old.todo.items ≡ []) }
+    ensures first { reverse front.new.todo.items ≡ first_branches lanes.now.rows.now ahead i arc offset distance }
+    ensures keys { front.new.keys.items ≡ front.old.keys.items }
+    ensures full { front.new.full ≡ front.old.full }
 {
-    let direction = lanes[6 * i + 2];
-    if direction == 2 {
-        branches::put_branch(
-            todo,
-            arcs,
-            metres,
-            0,
-            first_branch(ahead, i, arc, offset, distance, false),
-        );
-        branches::put_branch(
-            todo,
-            arcs,
-            metres,
-            1,
-            first_branch(ahead, i, arc, offset, distance, true),
-        );
-        return 2;
-    }
-    if direction == 0 {
-        branches::put_branch(
-            todo,
-            arcs,
-            metres,
-            0,
-            first_branch(ahead, i, arc, offset, distance, ahead),
-        );
-        return 1;
-    }
-    branches::put_branch(
-        todo,
-        arcs,
-        metres,
-        0,
-        first_branch(ahead, i, arc, offset, distance, !ahead),
-    );
-    1
-}
-
-// Writes the first n places into the lists.
-fn write_answers(cases: &[usize], ends: &[f64], n: usize, rows: &mut [usize], positions: &mut [f64])
-    requires { (2 * n ≤ length cases.now) × (3 * n ≤ length ends.now) × (2 * n ≤ length rows.old)
-        × (3 * n ≤ length positions.old) }
-    ensures { (rows.new
-        ≡ over (rows_of case_row (held_by (advance_at cases.now ends.now) n)) rows.old)
-        × (positions.new
-        ≡ over (rows_of metre_row (held_by (advance_at cases.now ends.now) n)) positions.old) }
-{
-    let mut i = 0;
-    while i < n {
-        ends::write_advance(rows, positions, i, ends::advance_at(cases, ends, i));
-        i += 1;
+    match lanes.direction(i) {
+        Direction::Both => {
+            front
+                .todo
+                .push(first_branch(ahead, i, arc, offset, distance, false));
+            front
+                .todo
+                .push(first_branch(ahead, i, arc, offset, distance, true));
+        }
+        Direction::Forward => front
+            .todo
+            .push(first_branch(ahead, i, arc, offset, distance, ahead)),
+        _ => front
+            .todo
+            .push(first_branch(ahead, i, arc, offset, distance, !ahead)),
     }
 }
 
-// An answer without positions.
-pub fn refused(number: usize) -> Advanced
-    ensures { result ≡ refusal number }
+// Writes the places into the lists.
+fn write_answers(out: &[Advance], rows: &mut [usize], positions: &mut [f64])
+    requires { (2 * length out.now ≤ length rows.old) × (3 * length out.now ≤ length positions.old) }
+    ensures rows { rows.new ≡ over (rows_of case_row (reverse out.now)) rows.old }
+    ensures positions { positions.new ≡ over (rows_of metre_row (reverse out.now)) positions.old }
 {
-    Advanced {
-        number,
-        keys: 0,
-        positions: 0,
+    for (i, a) in out.iter().enumerate() {
+        a.write(rows, positions, i);
     }
 }
 
 // The answer of a run that has come this far, and its places in the lists where they fit.
-fn answer(
-    q: Progress,
-    cases: &[usize],
-    ends: &[f64],
-    rows: &mut [usize],
-    positions: &mut [f64],
-) -> Advanced
-    requires { (q.placed ≤ 1026) × (2052 ≤ length cases.now) × (3078 ≤ length ends.now) }
-    ensures { AnswerOf result rows.new positions.new (answered_by q.flight.full q.flight.entered
-        (held_by (advance_at cases.now ends.now) q.placed) rows.old positions.old) }
+fn answer(state: &State, rows: &mut [usize], positions: &mut [f64]) -> Result<Advanced, Refusal>
+    ensures { AnswerOf (advanced_of result) rows.new positions.new (answered (state_of state.now) rows.old positions.old) }
 {
-    let flight = q.flight;
-    let n = q.placed;
-    if flight.full {
-        return refused(14);
+    let out = state.found.out.as_slice();
+    let n = out.len();
+    if state.front.full || rows.len() < 2 * n || positions.len() < 3 * n {
+        return Err(Refusal::ShortList);
     }
-    if rows.len() < 2 * n {
-        return refused(14);
-    }
-    if positions.len() < 3 * n {
-        return refused(14);
-    }
-    write_answers(cases, ends, n, rows, positions);
-    Advanced {
+    write_answers(out, rows, positions);
+    Ok(Advanced {
         number: 0,
-        keys: flight.entered,
+        keys: state.front.keys.len(),
         positions: n,
-    }
+    })
 }
 
-// Every place from lane i on, in arrays lent for the run.
+// Every place from lane i on.
 fn search(
-    lanes: &[usize],
-    n: usize,
-    points: &[f32],
-    cumulative: &[f32],
-    fans: &[usize],
-    links: &[usize],
-    sections: &[usize],
-    stations: &[f64],
-    places: &[usize],
-    m: usize,
+    plan: &Plan,
     i: usize,
     arc: f32,
     offset: f64,
     distance: f64,
-    todo: &mut [usize],
-    arcs: &mut [f32],
-    metres: &mut [f64],
-    keys: &mut [usize],
-    placings: &mut [usize],
-    cases: &mut [usize],
-    ends: &mut [f64],
     rows: &mut [usize],
     positions: &mut [f64],
-) -> Advanced
-    requires { Tabled (tables lanes.now n points.now cumulative.now fans.now links.now sections.now stations.now
-        places.now m) × (i < n) × FrontRoom todo.old arcs.old metres.old keys.old
-        × FoundRoom placings.old cases.old ends.old }
-    ensures { AnswerOf result rows.new positions.new
-        (answered (explored (tables lanes.now n points.now cumulative.now fans.now
-        links.now sections.now stations.now places.now m) i arc offset distance)
-        rows.old positions.old) }
+) -> Result<Advanced, Refusal>
+    requires { i < plan.now.lanes.count }
+    ensures { AnswerOf (advanced_of result) rows.new positions.new
+        (answered (explored (tables_of plan.now) i arc offset distance) rows.old positions.old) }
 {
     let ahead = distance >= 0.0;
-    let first = start(lanes, ahead, i, arc, offset, distance, todo, arcs, metres);
-    let fresh = Progress {
-        flight: Flight {
-            todo: first,
-            entered: 0,
-            full: false,
-        },
-        placed: 0,
+    let mut state = State {
+        front: Front::new(),
+        found: Found::new(),
     };
-    let q = explore::run(
-        lanes, n, points, cumulative, fans, links, sections, stations, places, m, ahead, todo,
-        arcs, metres, keys, placings, cases, ends, fresh,
-    );
-    answer(q, cases, ends, rows, positions)
-}
-
-// Lends the arrays of a run.
-fn lend_arrays(
-    lanes: &[usize],
-    n: usize,
-    points: &[f32],
-    cumulative: &[f32],
-    fans: &[usize],
-    links: &[usize],
-    sections: &[usize],
-    stations: &[f64],
-    places: &[usize],
-    m: usize,
-    i: usize,
-    arc: f32,
-    offset: f64,
-    distance: f64,
-    rows: &mut [usize],
-    positions: &mut [f64],
-) -> Advanced
-    requires { Tabled (tables lanes.now n points.now cumulative.now fans.now links.now sections.now stations.now
-        places.now m) × (i < n) }
-    ensures { AnswerOf result rows.new positions.new
-        (answered (explored (tables lanes.now n points.now cumulative.now fans.now
-        links.now sections.now stations.now places.now m) i arc offset distance)
-        rows.old positions.old) }
-{
-    let mut todo = [0usize; 2052];
-    let mut arcs = [0.0f32; 1026];
-    let mut metres = [0.0f64; 2052];
-    let mut keys = [0usize; 4096];
-    let mut placings = [0usize; 5130];
-    let mut cases = [0usize; 2052];
-    let mut ends = [0.0f64; 3078];
-    search(
-        lanes,
-        n,
-        points,
-        cumulative,
-        fans,
-        links,
-        sections,
-        stations,
-        places,
-        m,
+    start(
+        &mut state.front,
+        &plan.lanes,
+        ahead,
         i,
         arc,
         offset,
         distance,
-        &mut todo,
-        &mut arcs,
-        &mut metres,
-        &mut keys,
-        &mut placings,
-        &mut cases,
-        &mut ends,
-        rows,
-        positions,
-    )
+    );
+    state.run(plan, ahead);
+    answer(&state, rows, positions)
 }
 
-// How far along lane i the station s of section j is.
-fn arc_at(
-    lanes: &[usize],
-    points: &[f32],
-    cumulative: &[f32],
-    sections: &[usize],
-    stations: &[f64],
-    i: usize,
-    j: usize,
-    s: f64,
-) -> f32
-    requires { Laid lanes.now points.now cumulative.now i × (4 * j + 3 < length sections.now)
-        × (end_station sections.now j ≤ length stations.now)
-        × Stationed (points_of lanes.now points.now i) (arcs_of lanes.now cumulative.now i)
-        (stations_of sections.now stations.now j) }
-    ensures { result ≡ along_of (points_of lanes.now points.now i)
-        (stations_of sections.now stations.now j) s }
+// How far along lane i, with the place p, the station s of its section is.
+fn arc_at(plan: &Plan, i: usize, p: usize, s: f64) -> f32
+    requires { (i < plan.now.lanes.count) × (p ≡ place_of plan.now.fans.now i) × (p < plan.now.place_count) }
+    ensures { result ≡ along_of (points_of plan.now.lanes.rows.now plan.now.lanes.points.now i)
+        (stations_of plan.now.sections.now plan.now.stations.now (placed_section plan.now.places.now p)) s }
 {
-    let first = lanes[6 * i + 4];
-    let end = first + lanes[6 * i + 5];
-    let a = 3 * first;
-    let e = 3 * end;
-    let from = sections[4 * j + 2];
-    let to = from + sections[4 * j + 3];
-    road::along(
-        &points[a..e],
-        &cumulative[first..end],
-        &stations[from..to],
-        s,
-    )
+    let (points, arcs) = plan.lanes.line(i);
+    road::along(points, arcs, plan.stations(i, p), s)
 }
 
-// Every place `distance` metres on from `from` along the lanes, of n lanes and m places: a row of case and lane, and one of s, offset and metres
-// short, for each. The lists are written only where all rows fit.
-pub fn advance(
-    lanes: &[usize],
-    n: usize,
-    points: &[f32],
-    cumulative: &[f32],
-    fans: &[usize],
-    links: &[usize],
-    sections: &[usize],
+// Every place `distance` metres on from `from`, or why there is none.
+fn places_on(
+    plan: &Plan,
     bounds: &[f64],
-    stations: &[f64],
-    places: &[usize],
-    m: usize,
+    from: LanePosition,
+    distance: f64,
+    rows: &mut [usize],
+    positions: &mut [f64],
+) -> Result<Advanced, Refusal>
+    requires { Bounded plan.now.fans.now plan.now.places.now plan.now.place_count bounds.now plan.now.lanes.count }
+    ensures { AnswerOf (advanced_of result) rows.new positions.new
+        (advance_rows (tables_of plan.now) bounds.now from distance rows.old positions.old) }
+{
+    let lanes = plan.lanes;
+    let Some(i) = plan_find::find_lane(from.lane, lanes.rows, lanes.count) else {
+        return Err(Refusal::OffTheLanes);
+    };
+    let Some(p) = plan.place(i) else {
+        return Err(Refusal::OffTheLanes);
+    };
+    if !beside::is_in_section(bounds, plan.section(i, p), from.s) {
+        return Err(Refusal::OffTheLanes);
+    }
+    if !float::is_finite(distance) {
+        return Err(Refusal::InfiniteDistance);
+    }
+    let arc = arc_at(plan, i, p, from.s);
+    search(plan, i, arc, from.offset, distance, rows, positions)
+}
+
+// Every place `distance` metres on from `from` along the lanes: a row of case and lane, and one of s, offset and metres short, for each. The lists
+// are written only where all rows fit.
+pub fn advance(
+    plan: &Plan,
+    bounds: &[f64],
     from: LanePosition,
     distance: f64,
     rows: &mut [usize],
     positions: &mut [f64],
 ) -> Advanced
-    requires { Tabled (tables lanes.now n points.now cumulative.now fans.now links.now sections.now stations.now
-        places.now m) × Bounded fans.now places.now m bounds.now n }
+    requires { Bounded plan.now.fans.now plan.now.places.now plan.now.place_count bounds.now plan.now.lanes.count }
     ensures { AnswerOf result rows.new positions.new
-        (advance_rows (tables lanes.now n points.now cumulative.now fans.now links.now
-        sections.now stations.now places.now m) bounds.now from distance
-        rows.old positions.old) }
+        (advance_rows (tables_of plan.now) bounds.now from distance rows.old positions.old) }
 {
-    let s = from.s;
-    let i = plan_find::find_lane(from.lane, lanes, n);
-    if n <= i {
-        return refused(12);
-    }
-    let p = fans[5 * i + 4];
-    if m <= p {
-        return refused(12);
-    }
-    let j = places[3 * p + 1];
-    if !beside::is_in_section(bounds, j, s) {
-        return refused(12);
-    }
-    if !float::is_finite(distance) {
-        return refused(13);
-    }
-    let arc = arc_at(lanes, points, cumulative, sections, stations, i, j, s);
-    lend_arrays(
-        lanes,
-        n,
-        points,
-        cumulative,
-        fans,
-        links,
-        sections,
-        stations,
-        places,
-        m,
-        i,
-        arc,
-        from.offset,
-        distance,
-        rows,
-        positions,
-    )
+    Advanced::from(places_on(plan, bounds, from, distance, rows, positions))
 }

@@ -1,10 +1,11 @@
 -- advance.rs, `left_of` and `right_of`, by ASAM OpenDRIVE: a section's lane numbers fall from left to right, as a lane with the road's direction
 -- sees it; a Backward lane sees it reversed, and Both counts as Forward. So the lane beside is the one with the next larger or the next smaller
 -- number in the section. Here by the rows of the plan's tables; `specs/InPlan.antt` has it by the plan's records. Definitions only.
-use Rattle.std.specs.Prelude.{Bool, cond, not, ◌&&◌, ◌||◌, List, ℕ, zero, suc, eqb, ltb, leb, Float}
+use Rattle.std.specs.Prelude.{Bool, cond, not, ◌&&◌, ◌||◌, List, ℕ, zero, suc, eqb, ltb, leb, Float, Result, Ok, Err}
 use Rattle.std.specs.Float.{binary64}
 use Rattle.std.specs.Float.Ieee.{le, of_bits}
-use Rattle.plan_format.specs.declared.LaneId.{LaneId}
+use Rattle.plan_format.specs.declared.Refusal.{Refusal}
+use Rattle.plan_format.specs.Refusals.{number_of}
 use Rattle.plan_find.specs.FirstRow.{first_row, is_lane}
 use Rattle.rows.specs.Rows.{lane_number, direction_of, place_of, placed_lane, placed_section, raised_number, start_of, end_of}
 use Rattle.beside.specs.declared.LanePosition.{LanePosition}
@@ -45,6 +46,11 @@ refusal number = record { number = number; at = record { lane = record { 0 = 0 }
 -- the center of the lane with this number, and of the lane in row i, at s
 abbrev pub center_of : ℕ → Float → BesideAnswer
 center_of number s = record { number = 0; at = record { lane = record { 0 = number }; s = s; offset = zero64 } }
+
+-- the answer of a search
+abbrev pub answer_of : Result LanePosition Refusal → BesideAnswer
+answer_of (Ok at) = record { number = 0; at = at }
+answer_of (Err e) = refusal (number_of e)
 
 abbrev pub center_at : List ℕ → ℕ → Float → BesideAnswer
 center_at lanes i s = center_of (lane_number lanes i) s

@@ -1,6 +1,6 @@
 -- The steps of the code: the tests, the search for the next number, and the answer.
-use Rattle.std.specs.Prelude.{◌≡◌, Bool, true, false, cond, ◌&&◌, List, ℕ, ◌+◌, ◌<◌, ◌≤◌, Float}
-use Rattle.std.proofs.Common.{sym, ◌∙◌, add-one}
+use Rattle.std.specs.Prelude.{◌≡◌, Bool, true, false, cond, ◌&&◌, List, ℕ, zero, suc, refl, ◌+◌, ◌<◌, ◌≤◌, Float}
+use Rattle.std.proofs.Common.{sym, ◌∙◌, add-one, arith}
 use Rattle.std.proofs.Math.Path.{ap}
 use Rattle.std.specs.Float.Ieee.{le}
 use borrow.Author.Tests.{lt-ltb, le-ltb, lt-leb, le-leb, eq-eqb, ne_eqb}
@@ -8,6 +8,9 @@ use Rattle.beside.specs.declared.LanePosition.{LanePosition}
 use Rattle.beside.specs.declared.BesideAnswer.{BesideAnswer}
 use Rattle.plan_find.specs.FirstRow.{first_row, is_lane}
 use Rattle.rows.specs.Rows.{direction_of, place_of, placed_lane, placed_section, raised_number, start_of, end_of}
+use Rattle.beside.specs.declared.Direction.{Direction}
+use Rattle.beside.specs.declared.Side.{Side}
+use Rattle.beside.specs.Sides.{direction_at, direction_number, side_at, side_number}
 use Rattle.beside.specs.Beside.{beyond, toward_larger, nearer_at, next_row, in_section, refusal, center_at, beside_row, beside_rows}
 
 -- ---- the tests
@@ -47,6 +50,18 @@ module _ (places : List ℕ) (m j here : ℕ) (larger : Bool) where
 
     pub next_same : nearer_at places m j here larger best k ≡ false → best ≡ next_row places m j here larger (k + 1)
     next_same h = sym (next_is ∙ ap (λ (b : Bool). cond b k best) h)
+
+-- ---- the way of a lane, by its number
+way_at : (direction side : ℕ) → toward_larger (direction_number (direction_at direction)) side ≡ toward_larger direction side
+way_at zero side = refl
+way_at (suc zero) side = refl
+way_at (suc (suc zero)) side = refl
+way_at (suc (suc (suc n))) side = sym (rw (ne_eqb (suc (suc (suc n))) 1 (λ e. absurd (omega arith))))
+
+pub toward_at : (direction : ℕ) (way : Direction) (side : Side) → way ≡ direction_at direction
+    → toward_larger (direction_number way) (side_number side) ≡ toward_larger direction (side_number side)
+toward_at direction way side e =
+    ap (λ (w : Direction). toward_larger (direction_number w) (side_number side)) e ∙ way_at direction (side_number side)
 
 -- ---- the answer, from the row of the position's lane
 module _ (lanes : List ℕ) (n : ℕ) (fans places : List ℕ) (m : ℕ) (bounds : List Float) (at : LanePosition) (side i : ℕ)
@@ -88,3 +103,13 @@ pub on_right : (lanes : List ℕ) (n : ℕ) (fans places : List ℕ) (m : ℕ) (
     → beside_rows lanes n fans places m bounds at 1 ≡ beside_rows lanes n fans places m bounds at side
 unfolding beside_rows beside_row
 on_right lanes n fans places m bounds at side h = rw (ne_eqb side 0 h)
+
+module _ (lanes : List ℕ) (n : ℕ) (fans places : List ℕ) (m : ℕ) (bounds : List Float) (at : LanePosition) where
+  number_at : (side : ℕ) → beside_rows lanes n fans places m bounds at (side_number (side_at side))
+      ≡ beside_rows lanes n fans places m bounds at side
+  number_at zero = refl
+  number_at (suc k) = on_right lanes n fans places m bounds at (suc k) (λ e. absurd (omega arith))
+
+  pub beside_at : (side : ℕ) (x : Side) → x ≡ side_at side
+      → beside_rows lanes n fans places m bounds at (side_number x) ≡ beside_rows lanes n fans places m bounds at side
+  beside_at side x e = ap (λ (y : Side). beside_rows lanes n fans places m bounds at (side_number y)) e ∙ number_at side

@@ -5,8 +5,6 @@ use Rattle.std.specs.Float.{binary32, binary64, nan}
 use Rattle.std.specs.Float.Ieee.{le, of_bits}
 use Rattle.plan_format.specs.Plan.{Plan, index_of}
 use Rattle.plan_format.specs.Records.{Lane, Place}
-use Rattle.plan_format.specs.declared.LaneId.{LaneId}
-use Rattle.beside.specs.declared.LanePosition.{LanePosition}
 use Rattle.beside.specs.declared.BesideAnswer.{BesideAnswer}
 use Rattle.beside.specs.Beside.{zero64, refusal, center_of}
 use Rattle.beside.specs.InPlan.{next_place, beside_in}

@@ -1,5 +1,6 @@
 -- The lane beside a lane position.
 pub mod Seated
+pub mod Sides
 pub mod Beside
 pub mod BesideLaws
 pub mod InPlan

@@ -2,11 +2,51 @@
 // tables with rows of fixed width: `lanes` (6 a row), `fans` (5), `places` (3) and `bounds` (2). `specs/` says what each function answers.
 #![tactic(auto)]
 
-ghost use Rattle.std.specs.Prelude.{◌≡◌, ◌+◌, ◌*◌, ◌<◌, ◌≤◌, length};
+ghost use Rattle.std.specs.Prelude.{◌≡◌, ◌+◌, ◌*◌, ◌<◌, ◌≤◌, length, IfSome, unwrap_or};
 ghost use Rattle.beside.specs.Seated.{Seated};
-ghost use Rattle.beside.specs.Beside.{beyond, toward_larger, nearer_at, next_row, in_section, refusal, beside_rows};
+ghost use Rattle.beside.specs.Sides.{direction_at, direction_number, side_at, side_number};
+ghost use Rattle.beside.specs.Beside.{answer_of, beyond, toward_larger, nearer_at, next_row, in_section, refusal, beside_rows};
 
-use plan_format::LaneId;
+use plan_format::{LaneId, Refusal};
+
+// Which way the traffic of a lane runs along its points. No accepted plan has another.
+#[derive(Clone, Copy, PartialEq, Eq)]
+pub enum Direction {
+    Forward,
+    Backward,
+    Both,
+    Other,
+}
+
+impl From<usize> for Direction {
+    ghost from_gives = { λ number way. way ≡ direction_at number };
+
+    // The direction for which this number stands in a lane's row.
+    fn from(number: usize) -> Direction {
+        match number {
+            0 => Direction::Forward,
+            1 => Direction::Backward,
+            2 => Direction::Both,
+            _ => Direction::Other,
+        }
+    }
+}
+
+// A side of a lane, as its traffic sees it.
+#[derive(Clone, Copy, PartialEq, Eq)]
+pub enum Side {
+    Left,
+    Right,
+}
+
+impl From<usize> for Side {
+    ghost from_gives = { λ number side. side ≡ side_at number };
+
+    // 0 is the left.
+    fn from(number: usize) -> Side {
+        if number == 0 { Side::Left } else { Side::Right }
+    }
+}
 
 // A place on a lane: the road's station, and metres from the lane's center toward the left of the road.
 #[repr(C)]
@@ -25,77 +65,15 @@ pub struct BesideAnswer {
     pub at: LanePosition,
 }
 
-// Whether b lies past a, toward the larger numbers or toward the smaller.
-fn is_beyond(larger: bool, a: usize, b: usize) -> bool
-    ensures { result ≡ beyond larger a b }
-{
-    if larger {
-        return a < b;
-    }
-    b < a
-}
+impl From<Result<LanePosition, Refusal>> for BesideAnswer {
+    ghost from_gives = { λ found answer. answer ≡ answer_of found };
 
-// Whether a side, 0 left and 1 right, is toward the larger numbers as a lane of this direction sees it: 1 Backward.
-fn is_toward_larger(direction: usize, side: usize) -> bool
-    ensures { result ≡ toward_larger direction side }
-{
-    if direction == 1 {
-        return side != 0;
-    }
-    side == 0
-}
-
-// Whether the lane of place k stands in section j between the number `here` and the nearest so far, that of place `best`, if there is one.
-fn is_nearer(
-    places: &[usize],
-    m: usize,
-    j: usize,
-    here: usize,
-    larger: bool,
-    best: usize,
-    k: usize,
-) -> bool
-    requires { (3 * m ≤ length places.now) × (k < m) }
-    ensures { result ≡ nearer_at places.now m j here larger best k }
-{
-    if places[3 * k + 1] != j {
-        return false;
-    }
-    let x = places[3 * k + 2];
-    if !is_beyond(larger, here, x) {
-        return false;
-    }
-    if m <= best {
-        return true;
-    }
-    is_beyond(larger, x, places[3 * best + 2])
-}
-
-// The place next to the number `here` in section j, toward the larger numbers or the smaller, or 256.
-fn next_row(places: &[usize], m: usize, j: usize, here: usize, larger: bool) -> usize
-    requires { (3 * m ≤ length places.now) × (m ≤ 256) }
-    ensures { result ≡ next_row places.now m j here larger m }
-{
-    let mut best = 256;
-    let mut k = 0;
-    while k < m {
-        if is_nearer(places, m, j, here, larger, best, k) {
-            best = k;
+    fn from(found: Result<LanePosition, Refusal>) -> BesideAnswer {
+        match found {
+            Ok(at) => BesideAnswer { number: 0, at },
+            Err(refusal) => refused(refusal.number()),
         }
-        k += 1;
     }
-    best
-}
-
-// Whether s is from the start to the end of section j.
-pub fn is_in_section(bounds: &[f64], j: usize, s: f64) -> bool
-    requires { 2 * j + 1 < length bounds.now }
-    ensures { result ≡ in_section bounds.now j s }
-{
-    if bounds[2 * j] <= s {
-        return s <= bounds[2 * j + 1];
-    }
-    false
 }
 
 // An answer without a lane.
@@ -112,77 +90,134 @@ pub fn refused(number: usize) -> BesideAnswer
     }
 }
 
-// The lane beside `at`'s, at the same s and at its center: 0 for the left of its traffic, 1 for the right. Of n lanes and m places.
-pub fn beside(
-    lanes: &[usize],
-    n: usize,
-    fans: &[usize],
-    places: &[usize],
-    m: usize,
-    bounds: &[f64],
-    at: LanePosition,
-    side: usize,
-) -> BesideAnswer
-    requires { Seated lanes.now n fans.now places.now m bounds.now }
-    ensures { result ≡ beside_rows lanes.now n fans.now places.now m bounds.now at side }
+// The tables by which the lane beside is found, of an accepted plan with so many lanes and places.
+#[derive(Clone, Copy)]
+pub struct Seats<'a> {
+    pub lanes: &'a [usize],
+    pub lane_count: usize,
+    pub fans: &'a [usize],
+    pub places: &'a [usize],
+    pub place_count: usize,
+    pub bounds: &'a [f64],
+    pub ghost seated: { Seated lanes.now lane_count fans.now places.now place_count bounds.now },
+}
+
+// Whether b lies past a, toward the larger numbers or toward the smaller.
+fn is_beyond(larger: bool, a: usize, b: usize) -> bool
+    ensures { result ≡ beyond larger a b }
 {
-    let s = at.s;
-    let i = plan_find::find_lane(at.lane, lanes, n);
-    if n <= i {
-        return refused(12);
+    if larger {
+        return a < b;
     }
-    let p = fans[5 * i + 4];
-    if m <= p {
-        return refused(12);
+    b < a
+}
+
+// Whether a side is toward the larger numbers, as a lane of this direction sees it.
+fn is_toward_larger(direction: Direction, side: Side) -> bool
+    ensures { result ≡ toward_larger (direction_number direction) (side_number side) }
+{
+    if direction == Direction::Backward {
+        return side != Side::Left;
     }
-    let j = places[3 * p + 1];
-    if !is_in_section(bounds, j, s) {
-        return refused(12);
+    side == Side::Left
+}
+
+// Whether s is from the start to the end of section j.
+pub fn is_in_section(bounds: &[f64], j: usize, s: f64) -> bool
+    requires { 2 * j + 1 < length bounds.now }
+    ensures { result ≡ in_section bounds.now j s }
+{
+    if bounds[2 * j] <= s {
+        return s <= bounds[2 * j + 1];
     }
-    let larger = is_toward_larger(lanes[6 * i + 2], side);
-    let r = next_row(places, m, j, places[3 * p + 2], larger);
-    if m <= r {
-        return refused(15);
+    false
+}
+
+impl Seats<'_> {
+    // Whether the lane of place k stands in section j between the number `here` and the nearest so far, that of place `best`, if there is one.
+    fn is_nearer(&self, j: usize, here: usize, larger: bool, best: Option<usize>, k: usize) -> bool
+        requires { IfSome best (λ b. b < self.now.place_count) × (k < self.now.place_count) }
+        ensures { result ≡ nearer_at self.now.places.now self.now.place_count j here larger (unwrap_or best 256) k }
+    {
+        let places = self.places;
+        if places[3 * k + 1] != j {
+            return false;
+        }
+        let x = places[3 * k + 2];
+        if !is_beyond(larger, here, x) {
+            return false;
+        }
+        match best {
+            Some(b) => is_beyond(larger, x, places[3 * b + 2]),
+            None => true,
+        }
     }
-    let there = places[3 * r];
-    BesideAnswer {
-        number: 0,
-        at: LanePosition {
+
+    // The place next to the number `here` in section j, toward the larger numbers or the smaller.
+    fn next_row(&self, j: usize, here: usize, larger: bool) -> Option<usize>
+        ensures is { unwrap_or result 256 ≡ next_row self.now.places.now self.now.place_count j here larger self.now.place_count }
+        ensures within { IfSome result (λ r. r < self.now.place_count) }
+    {
+        let mut best = None;
+        for k in 0..self.place_count {
+            if self.is_nearer(j, here, larger, best, k) {
+                best = Some(k);
+            }
+        }
+        best
+    }
+
+    // The lane beside `at`'s, at the same s and at its center.
+    fn lane_beside(&self, at: LanePosition, side: Side) -> Result<LanePosition, Refusal>
+        ensures { answer_of result ≡ beside_rows self.now.lanes.now self.now.lane_count self.now.fans.now self.now.places.now
+            self.now.place_count self.now.bounds.now at (side_number side) }
+    {
+        let lanes = self.lanes;
+        let places = self.places;
+        let Some(i) = plan_find::find_lane(at.lane, lanes, self.lane_count) else {
+            return Err(Refusal::OffTheLanes);
+        };
+        let p = self.fans[5 * i + 4];
+        if self.place_count <= p {
+            return Err(Refusal::OffTheLanes);
+        }
+        let j = places[3 * p + 1];
+        if !is_in_section(self.bounds, j, at.s) {
+            return Err(Refusal::OffTheLanes);
+        }
+        let larger = is_toward_larger(Direction::from(lanes[6 * i + 2]), side);
+        let Some(r) = self.next_row(j, places[3 * p + 2], larger) else {
+            return Err(Refusal::NoLaneBeside);
+        };
+        let there = places[3 * r];
+        Ok(LanePosition {
             lane: LaneId(lanes[6 * there]),
-            s,
+            s: at.s,
             offset: 0.0,
-        },
+        })
     }
+}
+
+// The lane beside `at`'s, at the same s and at its center: 0 for the left of its traffic, 1 for the right.
+pub fn beside(seats: Seats, at: LanePosition, side: usize) -> BesideAnswer
+    ensures { result ≡ beside_rows seats.entry.lanes.now seats.entry.lane_count seats.entry.fans.now seats.entry.places.now
+        seats.entry.place_count seats.entry.bounds.now at side }
+{
+    BesideAnswer::from(seats.lane_beside(at, Side::from(side)))
 }
 
 // The lane on the left of `at`'s traffic.
-pub fn left_of(
-    lanes: &[usize],
-    n: usize,
-    fans: &[usize],
-    places: &[usize],
-    m: usize,
-    bounds: &[f64],
-    at: LanePosition,
-) -> BesideAnswer
-    requires { Seated lanes.now n fans.now places.now m bounds.now }
-    ensures { result ≡ beside_rows lanes.now n fans.now places.now m bounds.now at 0 }
+pub fn left_of(seats: Seats, at: LanePosition) -> BesideAnswer
+    ensures { result ≡ beside_rows seats.entry.lanes.now seats.entry.lane_count seats.entry.fans.now seats.entry.places.now
+        seats.entry.place_count seats.entry.bounds.now at 0 }
 {
-    beside(lanes, n, fans, places, m, bounds, at, 0)
+    beside(seats, at, 0)
 }
 
 // The lane on the right of `at`'s traffic.
-pub fn right_of(
-    lanes: &[usize],
-    n: usize,
-    fans: &[usize],
-    places: &[usize],
-    m: usize,
-    bounds: &[f64],
-    at: LanePosition,
-) -> BesideAnswer
-    requires { Seated lanes.now n fans.now places.now m bounds.now }
-    ensures { result ≡ beside_rows lanes.now n fans.now places.now m bounds.now at 1 }
+pub fn right_of(seats: Seats, at: LanePosition) -> BesideAnswer
+    ensures { result ≡ beside_rows seats.entry.lanes.now seats.entry.lane_count seats.entry.fans.now seats.entry.places.now
+        seats.entry.place_count seats.entry.bounds.now at 1 }
 {
-    beside(lanes, n, fans, places, m, bounds, at, 1)
+    beside(seats, at, 1)
 }

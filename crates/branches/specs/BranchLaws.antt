@@ -1,5 +1,5 @@
 -- What the tests of the code decide.
-use Rattle.std.specs.Prelude.{◌≡◌, Bool, cond, not, ◌&&◌, ◌||◌, List, ◌∷◌, ℕ, ◌<◌, ◌≤◌, eqb, length, Float}
+use Rattle.std.specs.Prelude.{◌≡◌, Bool, cond, not, ◌&&◌, ◌||◌, List, ◌∷◌, ℕ, zero, suc, ◌<◌, ◌≤◌, eqb, length, Float}
 use Rattle.std.proofs.Math.Path.{refl, sym}
 use Rattle.std.proofs.Common.{ap, ◌∙◌, true≢false}
 use Rattle.std.proofs.Math.Bool.{true, false}
@@ -8,27 +8,14 @@ use Rattle.std.specs.Float.Ieee.{le}
 use borrow.Author.Tests.{ltb-true, lt-ltb, le-ltb, eq-eqb, ne_eqb}
 use Rattle.coords.specs.declared.Point.{Point}
 use Rattle.coords.specs.Coords.{zero⁺, distance_to}
+use Rattle.beside.specs.Sides.{direction_at}
+use Rattle.beside.specs.declared.Direction.TheVariants.{Forward, Backward, Both}
 use Rattle.rows.specs.Rows.{direction_of, length_of}
 use Rattle.branches.specs.declared.Branch.{Branch}
 use Rattle.branches.specs.declared.Leaving.{Leaving}
 use Rattle.branches.specs.declared.Key.{Key}
 use Rattle.branches.specs.Branches.{head_of, tail_of, away_from, at_end, is_next, up_on, branch_onto, key_of, same_key, holds}
 use Rattle.branches.specs.Front.{Front, enter}
-
-module _ (a b : Key) where
-  pub other_lane : (a.lane ≡ b.lane → ⊥) → false ≡ same_key a b
-  other_lane h = sym (rw (ne_eqb a.lane b.lane h))
-
-  module _ (lane : a.lane ≡ b.lane) where
-    pub other_arc : (a.arc ≡ b.arc → ⊥) → false ≡ same_key a b
-    other_arc h = sym (rw (eq-eqb a.lane b.lane lane, ne_eqb a.arc b.arc h))
-
-    module _ (arc : a.arc ≡ b.arc) where
-      pub other_remaining : (a.remaining ≡ b.remaining → ⊥) → false ≡ same_key a b
-      other_remaining h = sym (rw (eq-eqb a.lane b.lane lane, eq-eqb a.arc b.arc arc, ne_eqb a.remaining b.remaining h))
-
-      pub by_left : a.remaining ≡ b.remaining → eqb a.left b.left ≡ same_key a b
-      by_left h = sym (rw (eq-eqb a.lane b.lane lane, eq-eqb a.arc b.arc arc, eq-eqb a.remaining b.remaining h))
 
 -- ---- at which end a lane joins
 module _ (lanes : List ℕ) (points cumulative : List Float) (i next : ℕ) (up : Bool) (head tail : Float)
@@ -67,6 +54,24 @@ module _ (lanes : List ℕ) (n : ℕ) (points cumulative : List Float) (i : ℕ)
       by false b e h = absurd (true≢false (sym h))
 
 -- ---- which way a branch moves
+pub forward_at : (n : ℕ) → direction_at n ≡ Forward → n ≡ 0
+forward_at zero e = refl
+forward_at (suc zero) e = cc
+forward_at (suc (suc zero)) e = cc
+forward_at (suc (suc (suc n))) e = cc
+
+pub backward_at : (n : ℕ) → direction_at n ≡ Backward → n ≡ 1
+backward_at zero e = cc
+backward_at (suc zero) e = refl
+backward_at (suc (suc zero)) e = cc
+backward_at (suc (suc (suc n))) e = cc
+
+pub both_at : (n : ℕ) → direction_at n ≡ Both → n ≡ 2
+both_at zero e = cc
+both_at (suc zero) e = cc
+both_at (suc (suc zero)) e = refl
+both_at (suc (suc (suc n))) e = cc
+
 module _ (lanes : List ℕ) (points cumulative : List Float) (ahead : Bool) (exit : Point) (i : ℕ) where
   pub up_forward : direction_of lanes i ≡ 0 → ahead ≡ up_on lanes points cumulative ahead exit i
   unfolding up_on

@@ -4,8 +4,6 @@ pub mod Branches
 pub mod Front
 pub mod Held
 pub mod Links
-pub mod Bits
-pub mod Rows
 pub mod HeldLaws
 pub mod BranchLaws
 pub mod FrontLaws

@@ -6,18 +6,13 @@ use Rattle.std.proofs.Common.{◌∙◌, add-one}
 use Rattle.std.proofs.Math.Bool.{true, false, not}
 use mathlib.Core.List.{List, [], ◌∷◌}
 use Rattle.branches.specs.declared.Leaving.{Leaving}
-use Rattle.branches.specs.declared.Entering.{Entering}
 use Rattle.branches.specs.Tables.{led_to}
 use Rattle.branches.specs.Branches.{is_next, kept, branch_onto}
 use Rattle.branches.specs.Front.{Front, enter, enter_all, is_empty}
-use Rattle.branches.specs.Held.{front_of}
 
 pub record LinkFront : Type 0 where
   pub front : Front
   pub any : Bool
-
-abbrev pub link_front_of : Entering → List ℕ → List Float → List Float → List ℕ → LinkFront
-link_front_of e lanes arcs metres keys = record { front = front_of e.flight lanes arcs metres keys; any = e.any }
 
 abbrev pub pick_link_front : Bool → LinkFront → LinkFront → LinkFront
 pick_link_front b x y = cond b x y

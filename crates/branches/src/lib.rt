@@ -1,24 +1,28 @@
 // advance.rs: branches in flight, the keys by which they are told apart, and where they go on. `specs/Branches.antt` and `specs/Front.antt` say
-// what each function answers, `specs/Held.antt` how the arrays hold branches and keys.
+// what each function answers, `specs/Held.antt` how a `Front` holds branches and keys.
 #![tactic(auto)]
 
-ghost use Rattle.std.specs.Prelude.{◌≡◌, ◌∷◌, ◌+◌, ◌*◌, ◌<◌, ◌≤◌, eqb, length};
-ghost use Rattle.std.specs.Int.{w64};
-ghost use Rattle.std.proofs.Common.{of_z};
-ghost use Rattle.rows.specs.Rows.{end_point, points_of, arcs_of, length_of, first_link, successors, predecessors};
-ghost use Rattle.branches.specs.Tables.{Laid, AllLaid, led_to};
+ghost use Rattle.std.specs.Prelude.{◌≡◌, ◌+◌, ◌*◌, ◌<◌, ◌≤◌, Bool, false, ◌||◌, [], length, MatchOption};
+ghost use Rattle.arrayvec.specs.ArrayVec.{array_vec_len};
+ghost use Rattle.beside.specs.Sides.{direction_at};
+ghost use Rattle.geometry.specs.Partition.{Rising};
+ghost use Rattle.geometry.specs.Polyline.{Line};
+ghost use Rattle.road.specs.Along.{Stationed};
+ghost use Rattle.rows.specs.Rows.{arcs_of, direction_of, end_point, lane_number, length_of, place_of, placed_section, points_of, stations_of};
+ghost use Rattle.branches.specs.Tables.{AllLaid, Tabled, led_to, tables};
 ghost use Rattle.branches.specs.Branches.{millimetres, side_of, room_of, exit_of, head_of, tail_of, away_from, at_end, is_next, up_on};
 ghost use Rattle.branches.specs.Branches.{branch_onto};
-ghost use Rattle.branches.specs.Branches.{key_of, same_key, holds, link_end, link_count};
+ghost use Rattle.branches.specs.Branches.{key_of, link_end, link_count};
 ghost use Rattle.branches.specs.Front.{enter};
-ghost use Rattle.branches.specs.Links.{enter_link, enter_links, link_front_of};
-ghost use Rattle.branches.specs.Held.{held_by, branch_at, key_at, front_of, Balanced, FrontRoom};
+ghost use Rattle.branches.specs.Links.{enter_link, enter_links};
 
+use arrayvec::ArrayVec;
+use beside::Direction;
 use coords::Point;
 
 // One branch in flight: the row of its lane, how far along its centerline, which way it moves along it, its offset to the left of the traffic,
 // and the distance still to go.
-#[derive(Clone, Copy)]
+#[derive(Clone, Copy, Default)]
 pub struct Branch {
     pub lane: usize,
     pub arc: f32,
@@ -38,7 +42,7 @@ pub struct Leaving {
 }
 
 // By what branches that enter a lane are told apart.
-#[derive(Clone, Copy)]
+#[derive(Clone, Copy, Default, PartialEq, Eq)]
 pub struct Key {
     pub lane: usize,
     pub arc: usize,
@@ -46,47 +50,27 @@ pub struct Key {
     pub left: usize,
 }
 
-// How many branches are in flight and how many keys are entered, and whether one more would have been.
-#[derive(Clone, Copy)]
-pub struct Flight {
-    pub todo: usize,
-    pub entered: usize,
-    pub full: bool,
-}
-
 const MINUS_ONE: f64 = -1.0;
-
-// The 64 bits of a signed number.
-fn bits_of(v: i64) -> usize
-    ensures { result ≡ of_z w64 v }
-{
-    if v < 0 {
-        return 0xffff_ffff_ffff_ffff - ((-1 - v) as usize);
-    }
-    v as usize
-}
 
 // Whole millimetres.
 pub fn millimetres(m: f64) -> usize
     ensures { result ≡ millimetres m }
 {
-    bits_of(float::saturating_f64_to_i64(float::round(m * 1000.0)))
+    float::saturating_f64_to_i64(float::round(m * 1000.0)).cast_unsigned() as usize
 }
 
 // Which way the traffic runs along the centerline, for a branch that moves `up` it: 1 along it.
 pub fn side(ahead: bool, up: bool) -> f64
     ensures { result ≡ side_of ahead up }
 {
-    if up {
-        if ahead {
-            return 1.0;
-        }
-        return MINUS_ONE;
-    }
-    if ahead {
-        return MINUS_ONE;
-    }
-    1.0
+    if up == ahead { 1.0 } else { MINUS_ONE }
+}
+
+// The metres of a lane of this length that are left to a branch.
+pub fn room(up: bool, len: f32, arc: f32) -> f64
+    ensures { result ≡ room_of up len arc }
+{
+    float::f32_to_f64(if up { len - arc } else { arc })
 }
 
 // The length of lane i.
@@ -100,404 +84,315 @@ pub fn lane_length(lanes: &[usize], cumulative: &[f32], i: usize) -> f32
     geometry::length(&cumulative[first..end])
 }
 
-// The metres of a lane of this length that are left to a branch.
-pub fn room(up: bool, len: f32, arc: f32) -> f64
-    ensures { result ≡ room_of up len arc }
-{
-    if up {
-        return float::f32_to_f64(len - arc);
-    }
-    float::f32_to_f64(arc)
+// The lanes of an accepted plan: their rows, the points of their lines and the arc length at each.
+#[derive(Clone, Copy)]
+pub struct Lanes<'a> {
+    pub rows: &'a [usize],
+    pub count: usize,
+    pub points: &'a [f32],
+    pub cumulative: &'a [f32],
+    pub ghost laid: { AllLaid rows.now count points.now cumulative.now },
 }
 
-// The place at the end of lane i that a branch moving `up` it leaves by.
-pub fn exit_point(lanes: &[usize], points: &[f32], cumulative: &[f32], i: usize, up: bool) -> Point
-    requires { Laid lanes.now points.now cumulative.now i }
-    ensures { result ≡ exit_of lanes.now points.now cumulative.now i up }
-{
-    let first = lanes[6 * i + 4];
-    let end = first + lanes[6 * i + 5];
-    let a = 3 * first;
-    let e = 3 * end;
-    if up {
-        let len = geometry::length(&cumulative[first..end]);
-        return geometry::point_at(&points[a..e], &cumulative[first..end], len);
+impl<'a> Lanes<'a> {
+    // The number of lane i.
+    pub fn number(&self, i: usize) -> usize
+        requires { i < self.now.count }
+        ensures { result ≡ lane_number self.now.rows.now i }
+    {
+        let rows = self.rows;
+        rows[6 * i]
     }
-    geometry::point_at(&points[a..e], &cumulative[first..end], 0.0)
-}
 
-// The first point of lane i.
-fn head(lanes: &[usize], points: &[f32], i: usize) -> Point
-    requires { (6 * i + 5 < length lanes.now) × (3 * end_point lanes.now i ≤ length points.now)
-        × (2 < length (points_of lanes.now points.now i)) }
-    ensures { result ≡ head_of lanes.now points.now i }
-{
-    let first = lanes[6 * i + 4];
-    let end = first + lanes[6 * i + 5];
-    let a = 3 * first;
-    let e = 3 * end;
-    geometry::vertex(&points[a..e], 0)
-}
+    // Which way its traffic runs.
+    pub fn direction(&self, i: usize) -> Direction
+        requires { i < self.now.count }
+        ensures { result ≡ direction_at (direction_of self.now.rows.now i) }
+    {
+        let rows = self.rows;
+        Direction::from(rows[6 * i + 2])
+    }
 
-// The last point of lane i.
-fn tail(lanes: &[usize], points: &[f32], cumulative: &[f32], i: usize) -> Point
-    requires { Laid lanes.now points.now cumulative.now i }
-    ensures { result ≡ tail_of lanes.now points.now cumulative.now i }
-{
-    let first = lanes[6 * i + 4];
-    let end = first + lanes[6 * i + 5];
-    let a = 3 * first;
-    let e = 3 * end;
-    let cs = &cumulative[first..end];
-    geometry::vertex(&points[a..e], cs.len() - 1)
-}
+    // Its points and the arc lengths at them.
+    pub fn line(&self, i: usize) -> (&'a [f32], &'a [f32])
+        requires { i < self.now.count }
+        ensures points { result.0.now ≡ points_of self.now.rows.now self.now.points.now i }
+        ensures arcs { result.1.now ≡ arcs_of self.now.rows.now self.now.cumulative.now i }
+        ensures line { Line result.0.now result.1.now }
+        ensures rising { Rising result.1.now }
+    {
+        let rows = self.rows;
+        let first = rows[6 * i + 4];
+        let end = first + rows[6 * i + 5];
+        (
+            &self.points[3 * first..3 * end],
+            &self.cumulative[first..end],
+        )
+    }
 
-// The squared distance from p to the nearest place on lane i.
-fn away(lanes: &[usize], points: &[f32], cumulative: &[f32], i: usize, p: Point) -> f32
-    requires { Laid lanes.now points.now cumulative.now i }
-    ensures { result ≡ away_from lanes.now points.now cumulative.now i p }
-{
-    let first = lanes[6 * i + 4];
-    let end = first + lanes[6 * i + 5];
-    let a = 3 * first;
-    let e = 3 * end;
-    let q = geometry::project(&points[a..e], &cumulative[first..end], p);
-    let at = q.point;
-    (at - p).length_squared()
-}
+    // Its length.
+    pub fn length(&self, i: usize) -> f32
+        requires { i < self.now.count }
+        ensures { result ≡ length_of self.now.rows.now self.now.cumulative.now i }
+    {
+        lane_length(self.rows, self.cumulative, i)
+    }
 
-// Whether the lane `next` joins lane i at the end that a branch moving `up` it leaves by, rather than at the other.
-pub fn at_end(
-    lanes: &[usize],
-    points: &[f32],
-    cumulative: &[f32],
-    i: usize,
-    next: usize,
-    up: bool,
-) -> bool
-    requires { Laid lanes.now points.now cumulative.now i × Laid lanes.now points.now cumulative.now next }
-    ensures { result ≡ at_end lanes.now points.now cumulative.now i next up }
-{
-    let from_head = away(lanes, points, cumulative, next, head(lanes, points, i));
-    let from_tail = away(
-        lanes,
-        points,
-        cumulative,
-        next,
-        tail(lanes, points, cumulative, i),
-    );
-    if up {
-        return from_tail <= from_head;
+    // The place at the end of lane i that a branch moving `up` it leaves by.
+    pub fn exit_point(&self, i: usize, up: bool) -> Point
+        requires { i < self.now.count }
+        ensures { result ≡ exit_of self.now.rows.now self.now.points.now self.now.cumulative.now i up }
+    {
+        let (points, arcs) = self.line(i);
+        let s = if up { geometry::length(arcs) } else { 0.0 };
+        geometry::point_at(points, arcs, s)
     }
-    from_head <= from_tail
-}
 
-// Whether a branch on lane i, of n, goes on to the lane in row `next`.
-fn is_next(
-    lanes: &[usize],
-    n: usize,
-    points: &[f32],
-    cumulative: &[f32],
-    i: usize,
-    up: bool,
-    next: usize,
-) -> bool
-    requires { (i < n) × AllLaid lanes.now n points.now cumulative.now }
-    ensures { result ≡ is_next lanes.now n points.now cumulative.now i up next }
-{
-    if n <= next {
-        return false;
+    // The first point of lane i.
+    fn head(&self, i: usize) -> Point
+        requires { i < self.now.count }
+        ensures { result ≡ head_of self.now.rows.now self.now.points.now i }
+    {
+        let (points, _) = self.line(i);
+        geometry::vertex(points, 0)
     }
-    if lanes[6 * i + 2] != 2 {
-        return true;
-    }
-    at_end(lanes, points, cumulative, i, next, up)
-}
 
-// Which way a branch that comes from `exit` moves along lane i.
-fn up_on(
-    lanes: &[usize],
-    points: &[f32],
-    cumulative: &[f32],
-    ahead: bool,
-    exit: Point,
-    i: usize,
-) -> bool
-    requires { Laid lanes.now points.now cumulative.now i }
-    ensures { result ≡ up_on lanes.now points.now cumulative.now ahead exit i }
-{
-    let direction = lanes[6 * i + 2];
-    if direction == 0 {
-        return ahead;
+    // The last point of lane i.
+    fn tail(&self, i: usize) -> Point
+        requires { i < self.now.count }
+        ensures { result ≡ tail_of self.now.rows.now self.now.points.now self.now.cumulative.now i }
+    {
+        let (points, arcs) = self.line(i);
+        geometry::vertex(points, arcs.len() - 1)
     }
-    if direction == 1 {
-        return !ahead;
-    }
-    exit.distance_to(head(lanes, points, i)) <= exit.distance_to(tail(lanes, points, cumulative, i))
-}
 
-// The branch that enters the lane `next`.
-fn onto(
-    lanes: &[usize],
-    points: &[f32],
-    cumulative: &[f32],
-    ahead: bool,
-    l: Leaving,
-    next: usize,
-) -> Branch
-    requires { Laid lanes.now points.now cumulative.now next }
-    ensures { result ≡ branch_onto lanes.now points.now cumulative.now ahead l next }
-{
-    let left = l.left;
-    let remaining = l.remaining;
-    let up = up_on(lanes, points, cumulative, ahead, l.exit, next);
-    if up {
-        return Branch {
-            lane: next,
-            arc: 0.0,
-            up,
-            left,
-            remaining,
-        };
+    // The squared distance from p to the nearest place on lane i.
+    fn away(&self, i: usize, p: Point) -> f32
+        requires { i < self.now.count }
+        ensures { result ≡ away_from self.now.rows.now self.now.points.now self.now.cumulative.now i p }
+    {
+        let (points, arcs) = self.line(i);
+        let q = geometry::project(points, arcs, p).point;
+        (q - p).length_squared()
     }
-    Branch {
-        lane: next,
-        arc: lane_length(lanes, cumulative, next),
-        up,
-        left,
-        remaining,
-    }
-}
 
-// The key of a branch.
-fn key_of(lanes: &[usize], b: Branch) -> Key
-    requires { 6 * b.lane < length lanes.now }
-    ensures { result ≡ key_of lanes.now b }
-{
-    let lane = b.lane;
-    Key {
-        lane: lanes[6 * lane],
-        arc: float::to_bits(b.arc) as usize,
-        remaining: millimetres(b.remaining),
-        left: millimetres(b.left),
+    // Whether the lane `next` joins lane i at the end that a branch moving `up` it leaves by, rather than at the other.
+    pub fn at_end(&self, i: usize, next: usize, up: bool) -> bool
+        requires { (i < self.now.count) × (next < self.now.count) }
+        ensures { result ≡ at_end self.now.rows.now self.now.points.now self.now.cumulative.now i next up }
+    {
+        let from_head = self.away(next, self.head(i));
+        let from_tail = self.away(next, self.tail(i));
+        if up {
+            return from_tail <= from_head;
+        }
+        from_head <= from_tail
     }
-}
 
-// Whether row i of the keys is k.
-fn is_key(keys: &[usize], i: usize, k: Key) -> bool
-    requires { 4 * i + 3 < length keys.now }
-    ensures { result ≡ same_key (key_at keys.now i) k }
-{
-    let at = 4 * i;
-    if keys[at] != k.lane {
-        return false;
-    }
-    if keys[at + 1] != k.arc {
-        return false;
-    }
-    if keys[at + 2] != k.remaining {
-        return false;
-    }
-    keys[at + 3] == k.left
-}
-
-// Whether k is among the first n keys.
-fn holds_key(keys: &[usize], n: usize, k: Key) -> bool
-    requires { 4 * n ≤ length keys.now }
-    ensures { result ≡ holds same_key k (held_by (key_at keys.now) n) }
-{
-    let mut i = n;
-    while 0 < i {
-        i -= 1;
-        if is_key(keys, i, k) {
-            return true;
+    // Whether a branch on lane i goes on to the lane in row `next`.
+    fn is_next(&self, i: usize, up: bool, next: usize) -> bool
+        requires { i < self.now.count }
+        ensures { result ≡ is_next self.now.rows.now self.now.count self.now.points.now self.now.cumulative.now i up next }
+    {
+        if self.count <= next {
+            return false;
+        }
+        match self.direction(i) {
+            Direction::Both => self.at_end(i, next, up),
+            _ => true,
         }
     }
-    false
-}
 
-// Writes k as row i of the keys.
-fn put_key(keys: &mut [usize], i: usize, k: Key)
-    requires { 4 * i + 3 < length keys.old }
-    ensures { held_by (key_at keys.new) (i + 1) ≡ k ∷ held_by (key_at keys.old) i }
-{
-    let at = 4 * i;
-    keys[at] = k.lane;
-    keys[at + 1] = k.arc;
-    keys[at + 2] = k.remaining;
-    keys[at + 3] = k.left;
-}
+    // Which way a branch that comes from `exit` moves along lane i.
+    fn up_on(&self, ahead: bool, exit: Point, i: usize) -> bool
+        requires { i < self.now.count }
+        ensures { result ≡ up_on self.now.rows.now self.now.points.now self.now.cumulative.now ahead exit i }
+    {
+        match self.direction(i) {
+            Direction::Forward => ahead,
+            Direction::Backward => !ahead,
+            _ => exit.distance_to(self.head(i)) <= exit.distance_to(self.tail(i)),
+        }
+    }
 
-// 1 for true.
-fn flag(b: bool) -> usize
-    ensures { eqb result 1 ≡ b }
-{
-    if b { 1 } else { 0 }
-}
+    // The branch that enters the lane `next`.
+    fn onto(&self, ahead: bool, l: Leaving, next: usize) -> Branch
+        requires { next < self.now.count }
+        ensures { result ≡ branch_onto self.now.rows.now self.now.points.now self.now.cumulative.now ahead l next }
+    {
+        let up = self.up_on(ahead, l.exit, next);
+        Branch {
+            lane: next,
+            arc: if up { 0.0 } else { self.length(next) },
+            up,
+            left: l.left,
+            remaining: l.remaining,
+        }
+    }
 
-// Writes b as row i of the branches.
-pub fn put_branch(todo: &mut [usize], arcs: &mut [f32], metres: &mut [f64], i: usize, b: Branch)
-    requires { (2 * i + 1 < length todo.old) × (i < length arcs.old) × (2 * i + 1 < length metres.old) }
-    ensures { held_by (branch_at todo.new arcs.new metres.new) (i + 1)
-        ≡ b ∷ held_by (branch_at todo.old arcs.old metres.old) i }
-{
-    let at = 2 * i;
-    todo[at] = b.lane;
-    todo[at + 1] = flag(b.up);
-    arcs[i] = b.arc;
-    metres[at] = b.left;
-    metres[at + 1] = b.remaining;
-}
-
-// The branch in row i.
-pub fn branch_at(todo: &[usize], arcs: &[f32], metres: &[f64], i: usize) -> Branch
-    requires { (2 * i + 1 < length todo.now) × (i < length arcs.now) × (2 * i + 1 < length metres.now) }
-    ensures { result ≡ branch_at todo.now arcs.now metres.now i }
-{
-    let at = 2 * i;
-    Branch {
-        lane: todo[at],
-        arc: arcs[i],
-        up: todo[at + 1] == 1,
-        left: metres[at],
-        remaining: metres[at + 1],
+    // The key of a branch.
+    fn key_of(&self, b: Branch) -> Key
+        requires { b.lane < self.now.count }
+        ensures { result ≡ key_of self.now.rows.now b }
+    {
+        Key {
+            lane: self.number(b.lane),
+            arc: float::to_bits(b.arc) as usize,
+            remaining: millimetres(b.remaining),
+            left: millimetres(b.left),
+        }
     }
 }
 
-// The branch b is put in flight unless its key was entered before, or does not fit.
-fn enter(
-    lanes: &[usize],
-    b: Branch,
-    todo: &mut [usize],
-    arcs: &mut [f32],
-    metres: &mut [f64],
-    keys: &mut [usize],
-    p: Flight,
-) -> Flight
-    requires { (6 * b.lane < length lanes.now) × Balanced p × FrontRoom todo.old arcs.old metres.old keys.old }
-    ensures { Balanced result × (front_of result todo.new arcs.new metres.new keys.new
-        ≡ enter lanes.now b (front_of p todo.old arcs.old metres.old keys.old)) }
-{
-    let flying = p.todo;
-    let entered = p.entered;
-    let k = key_of(lanes, b);
-    if holds_key(keys, entered, k) {
-        return p;
+// The branches in flight and the keys entered, the newest last, and whether one more key would have been. Each key entered gave one branch, and at
+// most two were there first.
+#[derive(Drop)]
+pub struct Front {
+    pub todo: ArrayVec<Branch, 1026>,
+    pub keys: ArrayVec<Key, 1024>,
+    pub full: bool,
+    pub ghost balanced: { array_vec_len todo ≤ array_vec_len keys + 2 },
+}
+
+impl Front {
+    ghost use Rattle.branches.specs.Held.{front_of, link_front_of};
+
+    // No branch in flight, and no key entered.
+    pub fn new() -> Self
+        ensures todo { result.todo.items ≡ [] }
+        ensures keys { result.keys.items ≡ [] }
+        ensures full { result.full ≡ false }
+    {
+        Front {
+            todo: ArrayVec::new(),
+            keys: ArrayVec::new(),
+            full: false,
+        }
     }
-    if 1024 <= entered {
-        return Flight {
-            todo: flying,
-            entered,
-            full: true,
-        };
+
+    // The branch b is put in flight unless its key was entered before, or does not fit.
+    fn enter(&mut self, lanes: &Lanes, b: Branch)
+        requires { b.lane < lanes.now.count }
+        ensures { front_of self.new ≡ enter lanes.now.rows.now b (front_of self.old) }
+    {
+        let k = lanes.key_of(b);
+        if self.keys.contains(&k) {
+            return;
+        }
+        if self.keys.is_full() {
+            self.full = true;
+            return;
+        }
+        self.keys.push(k);
+        self.todo.push(b);
     }
-    put_branch(todo, arcs, metres, flying, b);
-    put_key(keys, entered, k);
-    Flight {
-        todo: flying + 1,
-        entered: entered + 1,
-        full: p.full,
+
+    // The branch l goes on to the lane in row `next` where that follows its own; answers whether it does.
+    fn enter_link(&mut self, lanes: &Lanes, ahead: bool, l: Leaving, next: usize) -> bool
+        requires { l.lane < lanes.now.count }
+        ensures { (any : Bool) → link_front_of self.new (any || result)
+            ≡ enter_link lanes.now.rows.now lanes.now.count lanes.now.points.now lanes.now.cumulative.now ahead l next
+            (link_front_of self.old any) }
+    {
+        if !lanes.is_next(l.lane, l.up, next) {
+            return false;
+        }
+        self.enter(lanes, lanes.onto(ahead, l, next));
+        true
+    }
+
+    // The branch l goes on along the `count` links before row `end`, from the last to the first; answers whether a lane follows.
+    pub fn enter_links(
+        &mut self,
+        lanes: &Lanes,
+        links: &[usize],
+        end: usize,
+        count: usize,
+        ahead: bool,
+        l: Leaving,
+    ) -> bool
+        requires { (l.lane < lanes.now.count) × (2 * end ≤ length links.now) × (count ≤ end) }
+        ensures { link_front_of self.new result
+            ≡ enter_links lanes.now.rows.now lanes.now.count lanes.now.points.now lanes.now.cumulative.now ahead l
+            (led_to links.now end count) (front_of self.old) }
+    {
+        let mut any = false;
+        for at in (end - count..end).rev() {
+            let next = links[2 * at + 1];
+            any |= self.enter_link(lanes, ahead, l, next);
+        }
+        any
     }
 }
 
-// What the links followed so far have led to: the branches in flight, and whether a lane follows.
+// The tables of an accepted plan that an advance reads, with so many places.
 #[derive(Clone, Copy)]
-pub struct Entering {
-    pub flight: Flight,
-    pub any: bool,
+pub struct Plan<'a> {
+    pub lanes: Lanes<'a>,
+    pub fans: &'a [usize],
+    pub links: &'a [usize],
+    pub sections: &'a [usize],
+    pub stations: &'a [f64],
+    pub places: &'a [usize],
+    pub place_count: usize,
+    pub ghost tabled: { Tabled (tables lanes.rows.now lanes.count lanes.points.now lanes.cumulative.now fans.now links.now
+        sections.now stations.now places.now place_count) },
 }
 
-// The branch l goes on to the lane in row `next` where that follows its own.
-fn enter_link(
-    lanes: &[usize],
-    n: usize,
-    points: &[f32],
-    cumulative: &[f32],
-    ahead: bool,
-    l: Leaving,
-    next: usize,
-    todo: &mut [usize],
-    arcs: &mut [f32],
-    metres: &mut [f64],
-    keys: &mut [usize],
-    e: Entering,
-) -> Entering
-    requires { (l.lane < n) × AllLaid lanes.now n points.now cumulative.now × Balanced e.flight
-        × FrontRoom todo.old arcs.old metres.old keys.old }
-    ensures { Balanced result.flight × (link_front_of result todo.new arcs.new metres.new keys.new
-        ≡ enter_link lanes.now n points.now cumulative.now ahead l next
-        (link_front_of e todo.old arcs.old metres.old keys.old)) }
-{
-    let flight = e.flight;
-    if !is_next(lanes, n, points, cumulative, l.lane, l.up, next) {
-        return e;
+impl<'a> Plan<'a> {
+    // The row of lane i's place, if it has one.
+    pub fn place(&self, i: usize) -> Option<usize>
+        requires { i < self.now.lanes.count }
+        ensures { MatchOption result (self.now.place_count ≤ place_of self.now.fans.now i)
+            (λ p. (p ≡ place_of self.now.fans.now i) × (p < self.now.place_count)) }
+    {
+        let fans = self.fans;
+        let p = fans[5 * i + 4];
+        if p < self.place_count { Some(p) } else { None }
     }
-    let b = onto(lanes, points, cumulative, ahead, l, next);
-    Entering {
-        flight: enter(lanes, b, todo, arcs, metres, keys, flight),
-        any: true,
-    }
-}
 
-// The branch l goes on along the `count` links before row `end`, from the last to the first.
-pub fn enter_links(
-    lanes: &[usize],
-    n: usize,
-    points: &[f32],
-    cumulative: &[f32],
-    links: &[usize],
-    end: usize,
-    count: usize,
-    ahead: bool,
-    l: Leaving,
-    todo: &mut [usize],
-    arcs: &mut [f32],
-    metres: &mut [f64],
-    keys: &mut [usize],
-    p: Flight,
-) -> Entering
-    requires { (l.lane < n) × AllLaid lanes.now n points.now cumulative.now × (2 * end ≤ length links.now) × (count ≤ end)
-        × Balanced p
-        × FrontRoom todo.old arcs.old metres.old keys.old }
-    ensures { Balanced result.flight × (link_front_of result todo.new arcs.new metres.new keys.new
-        ≡ enter_links lanes.now n points.now cumulative.now ahead l (led_to links.now end count)
-        (front_of p todo.old arcs.old metres.old keys.old)) }
-{
-    let mut e = Entering {
-        flight: p,
-        any: false,
-    };
-    let mut k = 0;
-    while k < count {
-        let next = links[2 * (end - (k + 1)) + 1];
-        e = enter_link(
-            lanes, n, points, cumulative, ahead, l, next, todo, arcs, metres, keys, e,
-        );
-        k += 1;
+    // The row of the section of place p, that of lane i.
+    pub fn section(&self, i: usize, p: usize) -> usize
+        requires { (i < self.now.lanes.count) × (p ≡ place_of self.now.fans.now i) × (p < self.now.place_count) }
+        ensures { result ≡ placed_section self.now.places.now p }
+    {
+        let places = self.places;
+        places[3 * p + 1]
     }
-    e
-}
 
-// The row after the links that are followed from lane i: successors ahead, predecessors back.
-pub fn link_end(fans: &[usize], ahead: bool, i: usize) -> usize
-    requires { (5 * i + 4 < length fans.now)
-        × (first_link fans.now i + successors fans.now i + predecessors fans.now i < 4294967296) }
-    ensures { result ≡ link_end fans.now ahead i }
-{
-    let after = fans[5 * i] + fans[5 * i + 1];
-    if ahead {
-        return after;
+    // The stations of that section, one for each point of the lane.
+    pub fn stations(&self, i: usize, p: usize) -> &'a [f64]
+        requires { (i < self.now.lanes.count) × (p ≡ place_of self.now.fans.now i) × (p < self.now.place_count) }
+        ensures stations { result.now ≡ stations_of self.now.sections.now self.now.stations.now (placed_section self.now.places.now p) }
+        ensures stationed { Stationed (points_of self.now.lanes.rows.now self.now.lanes.points.now i)
+            (arcs_of self.now.lanes.rows.now self.now.lanes.cumulative.now i) result.now }
+    {
+        let sections = self.sections;
+        let j = self.section(i, p);
+        let from = sections[4 * j + 2];
+        let to = from + sections[4 * j + 3];
+        &self.stations[from..to]
     }
-    after + fans[5 * i + 2]
-}
 
-// How many they are.
-pub fn link_count(fans: &[usize], ahead: bool, i: usize) -> usize
-    requires { 5 * i + 4 < length fans.now }
-    ensures { result ≡ link_count fans.now ahead i }
-{
-    if ahead {
-        return fans[5 * i + 1];
+    // The row after the links that are followed from lane i: successors ahead, predecessors back.
+    pub fn link_end(&self, ahead: bool, i: usize) -> usize
+        requires { i < self.now.lanes.count }
+        ensures { result ≡ link_end self.now.fans.now ahead i }
+    {
+        let fans = self.fans;
+        let after = fans[5 * i] + fans[5 * i + 1];
+        if ahead {
+            return after;
+        }
+        after + fans[5 * i + 2]
     }
-    fans[5 * i + 2]
+
+    // How many they are.
+    pub fn link_count(&self, ahead: bool, i: usize) -> usize
+        requires { i < self.now.lanes.count }
+        ensures { result ≡ link_count self.now.fans.now ahead i }
+    {
+        let fans = self.fans;
+        fans[if ahead { 5 * i + 1 } else { 5 * i + 2 }]
+    }
 }

@@ -5,11 +5,11 @@ use Rattle.std.specs.Float.Ieee.{add, sub, mul, lt}
 use Rattle.float.specs.Choose.{min_of}
 use Rattle.float.specs.Narrow.{narrow_of}
 use Rattle.road.specs.Along.{station_of}
-use Rattle.plan_format.specs.declared.LaneId.{LaneId}
 use Rattle.beside.specs.declared.LanePosition.{LanePosition}
 use Rattle.rows.specs.Rows.{lane_number, place_of, placed_section, points_of, stations_of}
 use Rattle.beside.specs.Beside.{zero64}
 use Rattle.branches.specs.declared.Branch.{Branch}
+use Rattle.branches.specs.Tables.{Tables}
 use Rattle.branches.specs.Branches.{millimetres, side_of, holds}
 use Rattle.ends.specs.declared.Placing.{Placing}
 use Rattle.ends.specs.declared.Advance.{Advance}
@@ -84,3 +84,7 @@ unfoldable pub place : List ℕ → List Float → List ℕ → List ℕ → Lis
 place lanes points fans sections stations places m ahead b room g =
     let at = end_position lanes points fans sections stations places ahead b room in
     pick_found (ltb (place_of fans b.lane) m) (give (end_of b.remaining room at) g) g
+
+-- `place` in the tables of a plan
+abbrev pub place_in : Tables → Bool → Branch → Float → Found → Found
+place_in t ahead b room g = place t.lanes t.points t.fans t.sections t.stations t.places t.place_count ahead b room g

@@ -1,19 +1,16 @@
-// advance.rs: where branches end, and the places they give. `specs/Ends.antt` says what each function answers, `specs/Held.antt` how the
-// arrays hold the places.
+// advance.rs: where branches end, and the places they give. `specs/Ends.antt` says what each function answers, `specs/Held.antt` how a `Found`
+// holds the places.
 #![tactic(auto)]
 
-ghost use Rattle.std.specs.Prelude.{◌≡◌, ◌∷◌, ◌+◌, ◌*◌, ◌<◌, ◌≤◌, length};
+ghost use Rattle.std.specs.Prelude.{◌≡◌, ◌+◌, ◌*◌, ◌<◌, ◌≤◌, [], length, set};
 ghost use Rattle.std.specs.Float.{nan};
+ghost use Rattle.arrayvec.specs.ArrayVec.{array_vec_len};
 ghost use Rattle.rows.specs.Rows.{place_of};
-ghost use Rattle.branches.specs.Tables.{Laid, Ending};
-ghost use Rattle.branches.specs.Branches.{holds};
-ghost use Rattle.ends.specs.Ends.{case_of, position_of, short_of, placing_of, same_placing, end_arc, end_position, end_of, give, place};
-ghost use Rattle.branches.specs.Held.{held_by};
-ghost use Rattle.ends.specs.Held.{placing_at, advance_at, found_of, FoundRoom};
-ghost use Rattle.branches.specs.Rows.{two, three};
+ghost use Rattle.ends.specs.Ends.{case_of, position_of, short_of, placing_of, end_arc, end_position, end_of, give, place_in};
 
+use arrayvec::ArrayVec;
 use beside::LanePosition;
-use branches::Branch;
+use branches::{Branch, Plan};
 use plan_format::LaneId;
 
 // Where one branch ended: it went the whole distance, or ran out of lanes, `short` metres of the distance short.
@@ -23,8 +20,19 @@ pub enum Advance {
     DeadEnd { at: LanePosition, short: f64 },
 }
 
+// What stands in the places of a `Found` that hold none yet.
+impl Default for Advance {
+    fn default() -> Self {
+        Advance::Reached(LanePosition {
+            lane: LaneId(0),
+            s: 0.0,
+            offset: 0.0,
+        })
+    }
+}
+
 // By what places are told apart.
-#[derive(Clone, Copy)]
+#[derive(Clone, Copy, Default, PartialEq, Eq)]
 pub struct Placing {
     pub case: usize,
     pub lane: usize,
@@ -33,157 +41,69 @@ pub struct Placing {
     pub short: usize,
 }
 
-// 0 where the whole distance was gone, 1 at a dead end.
-fn case_of(a: Advance) -> usize
-    ensures { result ≡ case_of a }
-{
-    match a {
-        Advance::Reached(_) => 0,
-        Advance::DeadEnd { at: _, short: _ } => 1,
-    }
-}
-
-// Where the branch ended, whether it went the whole distance or not.
-pub fn position(a: Advance) -> LanePosition
-    ensures { result ≡ position_of a }
-{
-    match a {
-        Advance::Reached(at) => at,
-        Advance::DeadEnd { at, short: _ } => at,
-    }
-}
-
-// The metres short, 0 where the whole distance was gone.
-fn short_of(a: Advance) -> f64
-    ensures { result ≡ short_of a }
-{
-    match a {
-        Advance::Reached(_) => 0.0,
-        Advance::DeadEnd { at: _, short } => short,
-    }
-}
-
-// By what the place a is told apart.
-fn placing_of(a: Advance) -> Placing
-    ensures { result ≡ placing_of a }
-{
-    let at = position(a);
-    let lane = at.lane;
-    Placing {
-        case: case_of(a),
-        lane: lane.0,
-        s: branches::millimetres(at.s),
-        offset: branches::millimetres(at.offset),
-        short: branches::millimetres(short_of(a)),
-    }
-}
-
-// Whether row i of the placings is k.
-fn is_placing(placings: &[usize], i: usize, k: Placing) -> bool
-    requires { 5 * i + 4 < length placings.now }
-    ensures { result ≡ same_placing (placing_at placings.now i) k }
-{
-    let at = 5 * i;
-    if placings[at] != k.case {
-        return false;
-    }
-    if placings[at + 1] != k.lane {
-        return false;
-    }
-    if placings[at + 2] != k.s {
-        return false;
-    }
-    if placings[at + 3] != k.offset {
-        return false;
-    }
-    placings[at + 4] == k.short
-}
-
-// Whether k is among the first n placings.
-fn holds_placing(placings: &[usize], n: usize, k: Placing) -> bool
-    requires { 5 * n ≤ length placings.now }
-    ensures { result ≡ holds same_placing k (held_by (placing_at placings.now) n) }
-{
-    let mut i = n;
-    while 0 < i {
-        i -= 1;
-        if is_placing(placings, i, k) {
-            return true;
+impl Advance {
+    // Document 01's case: 0 where the whole distance was gone, 1 at a dead end.
+    fn case(self) -> usize
+        ensures { result ≡ case_of self }
+    {
+        match self {
+            Advance::Reached(_) => 0,
+            Advance::DeadEnd { at: _, short: _ } => 1,
         }
     }
-    false
-}
 
-// Writes k as row i of the placings.
-fn put_placing(placings: &mut [usize], i: usize, k: Placing)
-    requires { 5 * i + 4 < length placings.old }
-    ensures { held_by (placing_at placings.new) (i + 1) ≡ k ∷ held_by (placing_at placings.old) i }
-{
-    let at = 5 * i;
-    placings[at] = k.case;
-    placings[at + 1] = k.lane;
-    placings[at + 2] = k.s;
-    placings[at + 3] = k.offset;
-    placings[at + 4] = k.short;
-}
-
-// Writes a as row i of the lists: case and lane; s, offset and metres short.
-pub fn write_advance(cases: &mut [usize], metres: &mut [f64], i: usize, a: Advance)
-    requires { (2 * i + 1 < length cases.old) × (3 * i + 2 < length metres.old) }
-    ensures { (cases.new ≡ two cases.old (2 * i) 0 (case_of a) (position_of a).lane.0)
-        × (metres.new ≡ three metres.old (3 * i) nan (position_of a).s (position_of a).offset (short_of a)) }
-{
-    let at = position(a);
-    let lane = at.lane;
-    let k = 2 * i;
-    cases[k] = case_of(a);
-    cases[k + 1] = lane.0;
-    let j = 3 * i;
-    metres[j] = at.s;
-    metres[j + 1] = at.offset;
-    metres[j + 2] = short_of(a);
-}
-
-// The place in row i of the lists.
-pub fn advance_at(cases: &[usize], metres: &[f64], i: usize) -> Advance
-    requires { (2 * i + 1 < length cases.now) × (3 * i + 2 < length metres.now) }
-    ensures { result ≡ advance_at cases.now metres.now i }
-{
-    let k = 2 * i;
-    let j = 3 * i;
-    let at = LanePosition {
-        lane: LaneId(cases[k + 1]),
-        s: metres[j],
-        offset: metres[j + 1],
-    };
-    if cases[k] == 1 {
-        return Advance::DeadEnd {
-            at,
-            short: metres[j + 2],
-        };
+    // Where the branch ended, whether it went the whole distance or not.
+    pub fn position(self) -> LanePosition
+        ensures { result ≡ position_of self }
+    {
+        match self {
+            Advance::Reached(at) => at,
+            Advance::DeadEnd { at, short: _ } => at,
+        }
     }
-    Advance::Reached(at)
-}
 
-// The place a is given unless it was given before; answers how many are given then.
-fn give(
-    a: Advance,
-    placings: &mut [usize],
-    cases: &mut [usize],
-    metres: &mut [f64],
-    n: usize,
-) -> usize
-    requires { (n < 1026) × FoundRoom placings.old cases.old metres.old }
-    ensures { (result ≤ n + 1) × (found_of result placings.new cases.new metres.new
-        ≡ give a (found_of n placings.old cases.old metres.old)) }
-{
-    let k = placing_of(a);
-    if holds_placing(placings, n, k) {
-        return n;
+    // The metres short, 0 where the whole distance was gone.
+    fn short(self) -> f64
+        ensures { result ≡ short_of self }
+    {
+        match self {
+            Advance::Reached(_) => 0.0,
+            Advance::DeadEnd { at: _, short } => short,
+        }
     }
-    put_placing(placings, n, k);
-    write_advance(cases, metres, n, a);
-    n + 1
+
+    // By what the place is told apart.
+    fn placing(self) -> Placing
+        ensures { result ≡ placing_of self }
+    {
+        let at = self.position();
+        let lane = at.lane;
+        Placing {
+            case: self.case(),
+            lane: lane.0,
+            s: branches::millimetres(at.s),
+            offset: branches::millimetres(at.offset),
+            short: branches::millimetres(self.short()),
+        }
+    }
+
+    // Writes the place as row i of the lists: case and lane; s, offset and metres short.
+    pub fn write(self, rows: &mut [usize], positions: &mut [f64], i: usize)
+        requires { (2 * i + 1 < length rows.old) × (3 * i + 2 < length positions.old) }
+        ensures rows { rows.new ≡ set (set rows.old (2 * i) (case_of self)) (2 * i + 1) (position_of self).lane.0 }
+        ensures positions { positions.new ≡ set (set (set positions.old (3 * i) (position_of self).s) (3 * i + 1)
+            (position_of self).offset) (3 * i + 2) (short_of self) }
+    {
+        let at = self.position();
+        let lane = at.lane;
+        let k = 2 * i;
+        rows[k] = self.case();
+        rows[k + 1] = lane.0;
+        let j = 3 * i;
+        positions[j] = at.s;
+        positions[j + 1] = at.offset;
+        positions[j + 2] = self.short();
+    }
 }
 
 // How far along its lane's centerline a branch ends, which has so much room there.
@@ -198,43 +118,15 @@ fn end_arc(b: Branch, room: f64) -> f32
 }
 
 // The lane position where a branch ends, on a lane with the place p.
-fn end_position(
-    lanes: &[usize],
-    points: &[f32],
-    cumulative: &[f32],
-    fans: &[usize],
-    sections: &[usize],
-    stations: &[f64],
-    places: &[usize],
-    ahead: bool,
-    b: Branch,
-    room: f64,
-) -> LanePosition
-    requires { Laid lanes.now points.now cumulative.now b.lane × (5 * b.lane + 4 < length fans.now)
-        × Ending lanes.now points.now cumulative.now sections.now stations.now places.now b.lane
-        (place_of fans.now b.lane) }
-    ensures { result ≡ end_position lanes.now points.now fans.now sections.now
-        stations.now
-        places.now ahead b room }
+fn end_position(plan: &Plan, p: usize, ahead: bool, b: Branch, room: f64) -> LanePosition
+    requires { (b.lane < plan.now.lanes.count) × (p ≡ place_of plan.now.fans.now b.lane) × (p < plan.now.place_count) }
+    ensures { result ≡ end_position plan.now.lanes.rows.now plan.now.lanes.points.now plan.now.fans.now plan.now.sections.now
+        plan.now.stations.now plan.now.places.now ahead b room }
 {
-    let i = b.lane;
-    let first = lanes[6 * i + 4];
-    let end = first + lanes[6 * i + 5];
-    let a = 3 * first;
-    let e = 3 * end;
-    let p = fans[5 * i + 4];
-    let j = places[3 * p + 1];
-    let from = sections[4 * j + 2];
-    let to = from + sections[4 * j + 3];
-    let arc = end_arc(b, room);
+    let (points, arcs) = plan.lanes.line(b.lane);
     LanePosition {
-        lane: LaneId(lanes[6 * i]),
-        s: road::station_at(
-            &points[a..e],
-            &cumulative[first..end],
-            &stations[from..to],
-            arc,
-        ),
+        lane: LaneId(plan.lanes.number(b.lane)),
+        s: road::station_at(points, arcs, plan.stations(b.lane, p), end_arc(b, room)),
         offset: b.left * branches::side(ahead, b.up),
     }
 }
@@ -252,40 +144,53 @@ fn end_of(remaining: f64, room: f64, at: LanePosition) -> Advance
     Advance::Reached(at)
 }
 
-// The end of a branch is given where its lane has one of the m places; answers how many are given then.
-pub fn place(
-    lanes: &[usize],
-    points: &[f32],
-    cumulative: &[f32],
-    fans: &[usize],
-    sections: &[usize],
-    stations: &[f64],
-    places: &[usize],
-    m: usize,
-    ahead: bool,
-    b: Branch,
-    room: f64,
-    placings: &mut [usize],
-    cases: &mut [usize],
-    metres: &mut [f64],
-    n: usize,
-) -> usize
-    requires { Laid lanes.now points.now cumulative.now b.lane × (5 * b.lane + 4 < length fans.now)
-        × (place_of fans.now b.lane < m
-        → Ending lanes.now points.now cumulative.now sections.now stations.now places.now b.lane
-        (place_of fans.now b.lane))
-        × (n < 1026) × FoundRoom placings.old cases.old metres.old }
-    ensures { (result ≤ n + 1) × (found_of result placings.new cases.new metres.new
-        ≡ place lanes.now points.now fans.now sections.now stations.now
-        places.now m ahead b room
-        (found_of n placings.old cases.old metres.old)) }
-{
-    let i = b.lane;
-    if m <= fans[5 * i + 4] {
-        return n;
+// The places given, the newest last, and by what each is told apart.
+#[derive(Drop)]
+pub struct Found {
+    pub placed: ArrayVec<Placing, 1026>,
+    pub out: ArrayVec<Advance, 1026>,
+    pub ghost paired: { array_vec_len placed ≡ array_vec_len out },
+}
+
+impl Found {
+    ghost use Rattle.branches.specs.Held.{tables_of};
+    ghost use Rattle.ends.specs.Held.{found_of};
+
+    // No place given.
+    pub fn new() -> Self
+        ensures placed { result.placed.items ≡ [] }
+        ensures out { result.out.items ≡ [] }
+    {
+        Found {
+            placed: ArrayVec::new(),
+            out: ArrayVec::new(),
+        }
     }
-    let at = end_position(
-        lanes, points, cumulative, fans, sections, stations, places, ahead, b, room,
-    );
-    give(end_of(b.remaining, room, at), placings, cases, metres, n)
+
+    // The place a is given unless it was given before.
+    fn give(&mut self, a: Advance)
+        requires { array_vec_len self.old.out < 1026 }
+        ensures given { found_of self.new ≡ give a (found_of self.old) }
+        ensures one { array_vec_len self.new.out ≤ array_vec_len self.old.out + 1 }
+    {
+        let k = a.placing();
+        if self.placed.contains(&k) {
+            return;
+        }
+        self.placed.push(k);
+        self.out.push(a);
+    }
+
+    // The end of a branch is given where its lane has a place.
+    pub fn place(&mut self, plan: &Plan, ahead: bool, b: Branch, room: f64)
+        requires { (b.lane < plan.now.lanes.count) × (array_vec_len self.old.out < 1026) }
+        ensures given { found_of self.new ≡ place_in (tables_of plan.now) ahead b room (found_of self.old) }
+        ensures one { array_vec_len self.new.out ≤ array_vec_len self.old.out + 1 }
+    {
+        let Some(p) = plan.place(b.lane) else {
+            return;
+        };
+        let at = end_position(plan, p, ahead, b, room);
+        self.give(end_of(b.remaining, room, at));
+    }
 }

@@ -1,16 +1,13 @@
 -- advance.rs, the loop of `advance`: a state of branches in flight and places given is taken on, one branch at a time, as the Rust does it;
 -- lists have their newest element first. `specs/` of `branches` and `ends` say where a branch goes on and where it ends. Definitions only.
-use Rattle.std.specs.Prelude.{Bool, true, false, cond, not, ◌&&◌, List, [], ◌∷◌, ℕ, zero, suc, ltb, Float}
+use Rattle.std.specs.Prelude.{Bool, true, false, cond, not, ◌&&◌, List, [], ◌∷◌, ℕ, zero, suc, ltb}
 use Rattle.std.specs.Float.Ieee.{lt}
 use Rattle.rows.specs.Rows.{length_of}
 use Rattle.branches.specs.declared.Branch.{Branch}
 use Rattle.branches.specs.Tables.{Tables}
 use Rattle.branches.specs.Branches.{room_of, leaving_of, next_lanes}
 use Rattle.branches.specs.Front.{Front, enter_all, is_empty}
-use Rattle.ends.specs.Ends.{Found, place}
-
-abbrev pub place_in : Tables → Bool → Branch → Float → Found → Found
-place_in t ahead b room g = place t.lanes t.points t.fans t.sections t.stations t.places t.place_count ahead b room g
+use Rattle.ends.specs.Ends.{Found, place_in}
 
 pub record State : Type 0 where
   pub front : Front

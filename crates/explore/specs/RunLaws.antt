@@ -13,10 +13,9 @@ use Rattle.branches.specs.declared.Branch.{Branch}
 use Rattle.branches.specs.declared.Leaving.{Leaving}
 use Rattle.branches.specs.Tables.{Tables, led_to}
 use Rattle.branches.specs.Branches.{room_of, exit_of, leaving_of, link_end, link_count, linked_of, next_lanes}
-use Rattle.branches.specs.Front.{Front, enter_all, is_empty}
-use Rattle.ends.specs.Ends.{Found}
-use Rattle.explore.specs.Explore.{State, place_in, follow, with_todo, step_from, step, goes_on, run, run_from}
-use Rattle.branches.specs.Held.{held_by}
+use Rattle.branches.specs.Front.{enter_all, is_empty}
+use Rattle.ends.specs.Ends.{Found, place_in}
+use Rattle.explore.specs.Explore.{State, follow, with_todo, step_from, step, goes_on, run, run_from}
 use Rattle.branches.specs.Links.{LinkFront, enter_links, links_are}
 
 -- ---- a branch that is followed
@@ -71,6 +70,10 @@ module _ (t : Tables) (ahead : Bool) (b : Branch) (q : State) (room : Float)
     follow_dead a found g = sym (rw (← is, left, sym any_is ∙ a, ← g, front_is ∙ none_entered (next_lanes t ahead b) (sym any_is ∙ a)))
 
 -- ---- the newest branch taken off
+pub step_empty : (t : Tables) (ahead : Bool) (q : State) → q.front.todo ≡ [] → q ≡ step t ahead q
+unfolding step_from
+step_empty t ahead q e = sym (rw e)
+
 module _ (t : Tables) (ahead : Bool) (q : State) (b : Branch) (bs : List Branch) (top : q.front.todo ≡ b ∷ bs) where
   pub step_none : t.lane_count ≤ b.lane → with_todo bs q ≡ step t ahead q
   unfolding step_from
@@ -87,18 +90,16 @@ links_fit fans true i = omega arith
 links_fit fans false i = omega arith
 
 -- ---- whether there is a next step
-pub none_left : (f : ℕ → Branch) (n : ℕ) (full : Bool) → n ≡ 0 → (not (is_empty (held_by f n)) && not full) ≡ false
-unfolding held_by
-none_left f n full e = rw e
+pub none_left : (todo : List Branch) (full : Bool) → todo ≡ [] → (not (is_empty todo) && not full) ≡ false
+none_left todo full e = rw e
 
 pub keys_full : (b full : Bool) → full ≡ true → (b && not full) ≡ false
 keys_full true full e = rw e
 keys_full false full e = refl
 
-pub some_left : (f : ℕ → Branch) (n : ℕ) (full : Bool) → (n ≡ 0 → ⊥) → full ≡ false → (not (is_empty (held_by f n)) && not full) ≡ true
-unfolding held_by
-some_left f zero full h e = absurd (h refl)
-some_left f (suc n) full h e = rw e
+pub some_left : (todo : List Branch) (full : Bool) → (todo ≡ [] → ⊥) → full ≡ false → (not (is_empty todo) && not full) ≡ true
+some_left [] full h e = absurd (h refl)
+some_left (b ∷ bs) full h e = rw e
 
 -- ---- the counted steps
 module _ (t : Tables) (ahead : Bool) (q : State) where

@@ -10,23 +10,24 @@ ghost use Rattle.lanes_advance.specs.Advance.{AdvanceFronts, cut, position, with
 
 use advance::Advanced;
 use beside::LanePosition;
+use branches::{Lanes, Plan};
 use plan_format::{Counts, LaneId};
 use tables::open;
 
 // The positions moved on from the front of each table, for a plan with these counts.
-fn advance_from(
+fn advance_from<'a>(
     from: LanePosition,
     distance: f64,
     counts: Counts,
-    lanes: &[usize],
-    points: &[f32],
-    cumulative: &[f32],
-    fans: &[usize],
-    links: &[usize],
-    sections: &[usize],
-    bounds: &[f64],
-    stations: &[f64],
-    places: &[usize],
+    lanes: &'a [usize],
+    points: &'a [f32],
+    cumulative: &'a [f32],
+    fans: &'a [usize],
+    links: &'a [usize],
+    sections: &'a [usize],
+    bounds: &'a [f64],
+    stations: &'a [f64],
+    places: &'a [usize],
     rows: &mut [usize],
     positions: &mut [f64],
 ) -> Advanced
@@ -37,30 +38,27 @@ fn advance_from(
         links.now sections.now stations.now places.now)
         (take (2 * counts.sections) bounds.now) from distance rows.old positions.old }
 {
-    let n = counts.lanes;
-    let m = counts.places;
-    let q = counts.points;
-    let u = counts.stations;
-    let v = counts.links;
-    let w = counts.sections;
-    let a = 6 * n;
-    let b = 3 * q;
-    let d = 5 * n;
-    let e = 2 * v;
-    let g = 4 * w;
-    let h = 2 * w;
-    let k = 3 * m;
-    let ls = &lanes[..a];
-    let xs = &points[..b];
-    let cs = &cumulative[..q];
-    let fs = &fans[..d];
-    let ks = &links[..e];
-    let ss = &sections[..g];
-    let bs = &bounds[..h];
-    let us = &stations[..u];
-    let ps = &places[..k];
+    let plan = Plan {
+        lanes: Lanes {
+            rows: &lanes[..6 * counts.lanes],
+            count: counts.lanes,
+            points: &points[..3 * counts.points],
+            cumulative: &cumulative[..counts.points],
+        },
+        fans: &fans[..5 * counts.lanes],
+        links: &links[..2 * counts.links],
+        sections: &sections[..4 * counts.sections],
+        stations: &stations[..counts.stations],
+        places: &places[..3 * counts.places],
+        place_count: counts.places,
+    };
     advance::advance(
-        ls, n, xs, cs, fs, ks, ss, bs, us, ps, m, from, distance, rows, positions,
+        &plan,
+        &bounds[..2 * counts.sections],
+        from,
+        distance,
+        rows,
+        positions,
     )
 }
 

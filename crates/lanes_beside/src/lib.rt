@@ -8,39 +8,37 @@ ghost use Rattle.beside.specs.Beside.{beside_rows};
 ghost use Rattle.beside.specs.InPlan.{beside_of};
 ghost use Rattle.lanes_beside.specs.Beside.{BesideFronts, centerline};
 
-use beside::{BesideAnswer, LanePosition};
+use beside::{BesideAnswer, LanePosition, Seats};
 use plan_format::{Counts, LaneId};
 use tables::open;
 
 // The lane beside from the front of each table, for a plan with these counts.
-fn beside_from(
+fn beside_from<'a>(
     at: LanePosition,
     side: usize,
     counts: Counts,
-    lanes: &[usize],
-    fans: &[usize],
-    places: &[usize],
-    bounds: &[f64],
+    lanes: &'a [usize],
+    fans: &'a [usize],
+    places: &'a [usize],
+    bounds: &'a [f64],
 ) -> BesideAnswer
     requires { BesideFronts counts lanes.now fans.now places.now bounds.now }
     ensures { result ≡ beside_rows (take (6 * counts.lanes) lanes.now) counts.lanes
         (take (5 * counts.lanes) fans.now) (take (3 * counts.places) places.now) counts.places
         (take (2 * counts.sections) bounds.now) at side }
 {
-    let n = counts.lanes;
-    let m = counts.places;
-    let a = 6 * n;
-    let b = 5 * n;
-    let d = 3 * m;
-    let e = 2 * counts.sections;
-    let ls = &lanes[..a];
-    let fs = &fans[..b];
-    let ps = &places[..d];
-    let bs = &bounds[..e];
+    let seats = Seats {
+        lanes: &lanes[..6 * counts.lanes],
+        lane_count: counts.lanes,
+        fans: &fans[..5 * counts.lanes],
+        places: &places[..3 * counts.places],
+        place_count: counts.places,
+        bounds: &bounds[..2 * counts.sections],
+    };
     if side == 0 {
-        return beside::left_of(ls, n, fs, ps, m, bs, at);
+        return beside::left_of(seats, at);
     }
-    beside::right_of(ls, n, fs, ps, m, bs, at)
+    beside::right_of(seats, at)
 }
 
 // The lane beside a position at s on a lane: side 0 for the left of its traffic, 1 for the right. Numbers 1 to 8, where 5 is also another side;

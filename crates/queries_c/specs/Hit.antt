@@ -1,11 +1,10 @@
 -- The nearest span as C takes it.
-use Rattle.std.specs.Prelude.{true, false}
+use Rattle.std.specs.Prelude.{Option, None, Some, true, false}
 use Rattle.coords.specs.Coords.{zero⁺}
 use Rattle.network.specs.declared.Nearest.{Nearest}
-use Rattle.network.specs.declared.Nearest.TheVariants.{None, Found}
 use Rattle.queries_c.specs.declared.Hit.{Hit}
 
-abbrev pub as_hit : Nearest → Hit
+abbrev pub as_hit : Option Nearest → Hit
 as_hit None =
     record {
       found = false;
@@ -14,4 +13,4 @@ as_hit None =
       row = 0;
       projection = record { s = zero⁺; point = record { x = zero⁺; y = zero⁺; z = zero⁺ }; offset = zero⁺ };
     }
-as_hit (Found d i row q) = record { found = true; dist2 = d; span = i; row = row; projection = q }
+as_hit (Some b) = record { found = true; dist2 = b.dist2; span = b.span; row = b.row; projection = b.projection }

@@ -17,10 +17,11 @@ ghost use Rattle.queries_c.specs.Hit.{as_hit};
 ghost use Rattle.tables.specs.LaneTables.{Opens, lane_tables, too_short};
 
 use advance::Advanced;
-use beside::{BesideAnswer, LanePosition};
+use beside::{BesideAnswer, LanePosition, Seats};
+use branches::{Lanes, Plan};
 use coords::Point;
 use geometry::Projection;
-use network::{LaneIndex, Nearest};
+use network::{LaneIndex, Spans};
 use plan_format::Read;
 use route::RouteAnswer;
 
@@ -106,15 +107,24 @@ pub extern "C" fn kartsodi_nearest_indexed(
     ensures { result ≡ as_hit (told (nearest_of
         (span_list lanes.now points.now spans.now boxes.now index.count 0) p)) }
 {
-    match network::nearest_lane(lanes, points, cumulative, spans, boxes, ranges, index, p) {
-        Nearest::Found(dist2, span, row, projection) => Hit {
+    let spans = Spans {
+        lanes,
+        points,
+        cumulative,
+        spans,
+        boxes,
+        ranges,
+        index,
+    };
+    match spans.nearest_lane(p) {
+        Some(b) => Hit {
             found: true,
-            dist2,
-            span,
-            row,
-            projection,
+            dist2: b.dist2,
+            span: b.span,
+            row: b.row,
+            projection: b.projection,
         },
-        Nearest::None => Hit {
+        None => Hit {
             found: false,
             dist2: 0.0,
             span: 0,
@@ -157,17 +167,17 @@ pub extern "C" fn kartsodi_route_rows(
 }
 
 #[unsafe(no_mangle)]
-pub extern "C" fn kartsodi_advance_rows(
-    lanes: &[usize],
+pub extern "C" fn kartsodi_advance_rows<'a>(
+    lanes: &'a [usize],
     n: usize,
-    points: &[f32],
-    cumulative: &[f32],
-    fans: &[usize],
-    links: &[usize],
-    sections: &[usize],
+    points: &'a [f32],
+    cumulative: &'a [f32],
+    fans: &'a [usize],
+    links: &'a [usize],
+    sections: &'a [usize],
     bounds: &[f64],
-    stations: &[f64],
-    places: &[usize],
+    stations: &'a [f64],
+    places: &'a [usize],
     m: usize,
     from: LanePosition,
     distance: f64,
@@ -181,25 +191,44 @@ pub extern "C" fn kartsodi_advance_rows(
         sections.now stations.now places.now m) bounds.now from distance
         rows.old positions.old) }
 {
-    advance::advance(
-        lanes, n, points, cumulative, fans, links, sections, bounds, stations, places, m, from,
-        distance, rows, positions,
-    )
+    let plan = Plan {
+        lanes: Lanes {
+            rows: lanes,
+            count: n,
+            points,
+            cumulative,
+        },
+        fans,
+        links,
+        sections,
+        stations,
+        places,
+        place_count: m,
+    };
+    advance::advance(&plan, bounds, from, distance, rows, positions)
 }
 
 #[unsafe(no_mangle)]
-pub extern "C" fn kartsodi_beside_rows(
-    lanes: &[usize],
+pub extern "C" fn kartsodi_beside_rows<'a>(
+    lanes: &'a [usize],
     n: usize,
-    fans: &[usize],
-    places: &[usize],
+    fans: &'a [usize],
+    places: &'a [usize],
     m: usize,
-    bounds: &[f64],
+    bounds: &'a [f64],
     at: LanePosition,
     side: usize,
 ) -> BesideAnswer
     requires { Seated lanes.now n fans.now places.now m bounds.now }
     ensures { result ≡ beside_rows lanes.now n fans.now places.now m bounds.now at side }
 {
-    beside::beside(lanes, n, fans, places, m, bounds, at, side)
+    let seats = Seats {
+        lanes,
+        lane_count: n,
+        fans,
+        places,
+        place_count: m,
+        bounds,
+    };
+    beside::beside(seats, at, side)
 }

@@ -3,16 +3,18 @@
 #![tactic(auto)]
 
 ghost use Rattle.std.specs.Prelude.{◌≡◌, ◌*◌, ◌+◌, ◌-◌, ◌<◌, ◌≤◌, length};
-ghost use Rattle.branches.specs.Tables.{AllLaid, Laid};
+ghost use Rattle.branches.specs.Tables.{AllLaid};
 ghost use Rattle.geometry.specs.Locate.{point_along};
 ghost use Rattle.geometry.specs.Partition.{Rising};
 ghost use Rattle.geometry.specs.Polyline.{Line};
-ghost use Rattle.rows.specs.Rows.{arcs_of, end_point, points_of};
+ghost use Rattle.rows.specs.Rows.{arcs_of, points_of};
 ghost use Rattle.sampling.specs.Kept.{is_fresh, pushing, put_at, putting};
 ghost use Rattle.sampling.specs.Sampling.{changes_off, entry_on, exit_at, exit_for, is_ahead, is_forward, leads};
 ghost use Rattle.sampling.specs.Sampling.{point_on, route_tables, sample_at, sample_route, steps_of, toward, travel_end};
 ghost use Rattle.sampling.specs.Passes.{AllLinked, Linking, PathRows, Sampled, SegmentSampled};
 
+use beside::Direction;
+use branches::Lanes;
 use coords::Point;
 
 // How many points are kept, and the last of them.
@@ -182,49 +184,42 @@ fn changes_off(fans: &[usize], links: &[usize], i: usize, next: usize) -> bool
 }
 
 // Travel order: a forward lane runs along its polyline, a backward one against it, and a two-way one toward the next lane: `nearer_end` is
-// `branches::at_end` of a branch that moves up the lane.
-fn is_forward(lanes: &[usize], points: &[f32], cumulative: &[f32], i: usize, next: usize) -> bool
-    requires { Laid lanes.now points.now cumulative.now i × Laid lanes.now points.now cumulative.now next }
-    ensures { result ≡ is_forward lanes.now points.now cumulative.now i next }
+// `Lanes::at_end` of a branch that moves up the lane.
+fn is_forward(lanes: &Lanes, i: usize, next: usize) -> bool
+    requires { (i < lanes.now.count) × (next < lanes.now.count) }
+    ensures { result ≡ is_forward lanes.now.rows.now lanes.now.points.now lanes.now.cumulative.now i next }
 {
-    let direction = lanes[6 * i + 2];
-    if direction == 0 {
-        return true;
+    match lanes.direction(i) {
+        Direction::Forward => true,
+        Direction::Backward => false,
+        _ => lanes.at_end(i, next, true),
     }
-    if direction == 1 {
-        return false;
-    }
-    branches::at_end(lanes, points, cumulative, i, next, true)
 }
 
 // The end by which lane i is left for `next`.
-fn travel_end(lanes: &[usize], points: &[f32], cumulative: &[f32], i: usize, next: usize) -> f32
-    requires { Laid lanes.now points.now cumulative.now i × Laid lanes.now points.now cumulative.now next }
-    ensures { result ≡ travel_end lanes.now points.now cumulative.now i next }
+fn travel_end(lanes: &Lanes, i: usize, next: usize) -> f32
+    requires { (i < lanes.now.count) × (next < lanes.now.count) }
+    ensures { result ≡ travel_end lanes.now.rows.now lanes.now.points.now lanes.now.cumulative.now i next }
 {
-    if is_forward(lanes, points, cumulative, i, next) {
-        return branches::lane_length(lanes, cumulative, i);
+    if is_forward(lanes, i, next) {
+        return lanes.length(i);
     }
     0.0
 }
 
 // Where lane i, entered at `entry`, is left for `next`.
 fn exit_for(
-    lanes: &[usize],
-    points: &[f32],
-    cumulative: &[f32],
+    lanes: &Lanes,
     fans: &[usize],
     links: &[usize],
     i: usize,
     next: usize,
     entry: f32,
 ) -> f32
-    requires { Laid lanes.now points.now cumulative.now i × Laid lanes.now points.now cumulative.now next
-        × Linking fans.now links.now i }
-    ensures { result ≡ exit_for (route_tables lanes.now points.now cumulative.now fans.now
-        links.now) i next entry }
+    requires { (i < lanes.now.count) × (next < lanes.now.count) × Linking fans.now links.now i }
+    ensures { result ≡ exit_for (route_tables lanes.now.rows.now lanes.now.points.now lanes.now.cumulative.now fans.now links.now) i next entry }
 {
-    let end = travel_end(lanes, points, cumulative, i, next);
+    let end = travel_end(lanes, i, next);
     if changes_off(fans, links, i, next) {
         return advance(entry, end, LANE_CHANGE_DIST);
     }
@@ -232,48 +227,40 @@ fn exit_for(
 }
 
 // Where lane i, entered at `entry`, ends the route.
-fn exit_at(lanes: &[usize], cumulative: &[f32], i: usize, entry: f32, goal_s: f32) -> f32
-    requires { (6 * i + 5 < length lanes.now) × (end_point lanes.now i ≤ length cumulative.now)
-        × (0 < length (arcs_of lanes.now cumulative.now i)) }
-    ensures { result ≡ exit_at lanes.now cumulative.now i entry goal_s }
+fn exit_at(lanes: &Lanes, i: usize, entry: f32, goal_s: f32) -> f32
+    requires { i < lanes.now.count }
+    ensures { result ≡ exit_at lanes.now.rows.now lanes.now.cumulative.now i entry goal_s }
 {
-    let goal = float::clamp(goal_s, 0.0, branches::lane_length(lanes, cumulative, i));
-    if ahead(lanes[6 * i + 2], entry, goal) {
+    let goal = float::clamp(goal_s, 0.0, lanes.length(i));
+    let rows = lanes.rows;
+    if ahead(rows[6 * i + 2], entry, goal) {
         return goal;
     }
     entry
 }
 
 // The point at arc length s of lane i.
-fn point_on(lanes: &[usize], points: &[f32], cumulative: &[f32], i: usize, s: f32) -> Point
-    requires { Laid lanes.now points.now cumulative.now i }
-    ensures { result ≡ point_on lanes.now points.now cumulative.now i s }
+fn point_on(lanes: &Lanes, i: usize, s: f32) -> Point
+    requires { i < lanes.now.count }
+    ensures { result ≡ point_on lanes.now.rows.now lanes.now.points.now lanes.now.cumulative.now i s }
 {
-    let first = lanes[6 * i + 4];
-    let end = first + lanes[6 * i + 5];
-    let a = 3 * first;
-    let e = 3 * end;
-    geometry::point_at(&points[a..e], &cumulative[first..end], s)
+    let (points, arcs) = lanes.line(i);
+    geometry::point_at(points, arcs, s)
 }
 
 // Where lane i is entered from p: the arc length of the nearest point on it.
-fn entry_on(lanes: &[usize], points: &[f32], cumulative: &[f32], i: usize, p: Point) -> f32
-    requires { Laid lanes.now points.now cumulative.now i }
-    ensures { result ≡ entry_on lanes.now points.now cumulative.now i p }
+fn entry_on(lanes: &Lanes, i: usize, p: Point) -> f32
+    requires { i < lanes.now.count }
+    ensures { result ≡ entry_on lanes.now.rows.now lanes.now.points.now lanes.now.cumulative.now i p }
 {
-    let first = lanes[6 * i + 4];
-    let end = first + lanes[6 * i + 5];
-    let a = 3 * first;
-    let e = 3 * end;
-    let q = geometry::project(&points[a..e], &cumulative[first..end], p);
+    let (points, arcs) = lanes.line(i);
+    let q = geometry::project(points, arcs, p);
     q.s
 }
 
 // The points of lane i from `entry` to `exit`.
 fn sample_lane(
-    lanes: &[usize],
-    points: &[f32],
-    cumulative: &[f32],
+    lanes: &Lanes,
     i: usize,
     entry: f32,
     exit: f32,
@@ -281,32 +268,21 @@ fn sample_lane(
     kept: Kept,
     out: &mut [f32],
 ) -> Kept
-    requires { Laid lanes.now points.now cumulative.now i × (kept.count ≤ room) × (room < 18446744073709551615) }
-    ensures { SegmentSampled (points_of lanes.now points.now i) (arcs_of lanes.now cumulative.now i)
+    requires { (i < lanes.now.count) × (kept.count ≤ room) × (room < 18446744073709551615) }
+    ensures { SegmentSampled (points_of lanes.now.rows.now lanes.now.points.now i) (arcs_of lanes.now.rows.now lanes.now.cumulative.now i)
         entry exit room kept out.old result out.new }
 {
-    let first = lanes[6 * i + 4];
-    let end = first + lanes[6 * i + 5];
-    let a = 3 * first;
-    let e = 3 * end;
-    sample_segment(
-        &points[a..e],
-        &cumulative[first..end],
-        entry,
-        exit,
-        room,
-        kept,
-        out,
-    )
+    let (points, arcs) = lanes.line(i);
+    sample_segment(points, arcs, entry, exit, room, kept, out)
 }
 
 // Samples the lane path into points: each lane's centerline traversed in its travel direction, from the first lane's entry projection to the
 // last lane's exit projection. No more are sampled once one over `room` is kept; of the points kept so many are written as `out` has room for.
-pub fn sample_route(
-    lanes: &[usize],
+pub fn sample_route<'a>(
+    lanes: &'a [usize],
     n: usize,
-    points: &[f32],
-    cumulative: &[f32],
+    points: &'a [f32],
+    cumulative: &'a [f32],
     fans: &[usize],
     links: &[usize],
     path: &[usize],
@@ -320,8 +296,14 @@ pub fn sample_route(
     ensures { Sampled room (sample_route (route_tables lanes.now points.now cumulative.now
         fans.now links.now) path.now start_s goal_s) out.old result out.new }
 {
+    let lines = Lanes {
+        rows: lanes,
+        count: n,
+        points,
+        cumulative,
+    };
     let mut i = path[0];
-    let mut entry = float::clamp(start_s, 0.0, branches::lane_length(lanes, cumulative, i));
+    let mut entry = float::clamp(start_s, 0.0, lines.length(i));
     let mut kept = Kept {
         count: 0,
         last: Point {
@@ -333,21 +315,15 @@ pub fn sample_route(
     let mut k = 1;
     while k < path.len() {
         let next = path[k];
-        let exit = exit_for(lanes, points, cumulative, fans, links, i, next, entry);
-        kept = sample_lane(lanes, points, cumulative, i, entry, exit, room, kept, out);
+        let exit = exit_for(&lines, fans, links, i, next, entry);
+        kept = sample_lane(&lines, i, entry, exit, room, kept, out);
         if room < kept.count {
             return kept;
         }
-        entry = entry_on(
-            lanes,
-            points,
-            cumulative,
-            next,
-            point_on(lanes, points, cumulative, i, exit),
-        );
+        entry = entry_on(&lines, next, point_on(&lines, i, exit));
         i = next;
         k += 1;
     }
-    let exit = exit_at(lanes, cumulative, i, entry, goal_s);
-    sample_lane(lanes, points, cumulative, i, entry, exit, room, kept, out)
+    let exit = exit_at(&lines, i, entry, goal_s);
+    sample_lane(&lines, i, entry, exit, room, kept, out)
 }

@@ -1,42 +1,38 @@
 -- The lists are written only where the keys fit and both lists hold all places.
-use borrow.Author.Rules.{rules}
-use Rattle.ends.specs.Held.{advance_at}
+use Rattle.std.specs.Prelude.{◌≡◌, length}
+use Rattle.std.proofs.Common.{refl, ap, sym, ◌∙◌}
+use Rattle.std.proofs.lemmas.List.{length-reverse}
+use Rattle.explore.specs.Held.{state_of}
+use Rattle.advance.specs.Advance.{refusal}
 use Rattle.advance.specs.QueryLaws.{answered_full, answered_short_cases, answered_short_metres, answered_whole}
 use Rattle.advance.proofs.answer.Goals as goal
+use Rattle.advance.proofs.answer.Goals.{then-state-via-then-state, then-state-via-else-state+then-rows-n}
+use Rattle.advance.proofs.answer.Goals.{then-state-via-else-state+else-rows-n+then-positions-n}
 
-pub returns-then-flight : goal.returns-then-flight
-returns-then-flight c =
-    let refused = c.refused in
-    let if1 = c.if-flight in
-    let a = c.args in
-    answered_full a.q.flight.full a.q.flight.entered a.q.placed (advance_at a.cases.now a.ends.now) a.rows.now
-    a.positions.now refused.result refused.ensures if1.true
-
-pub returns-then-rows-n : goal.returns-then-rows-n
-returns-then-rows-n c =
-    let refused2 = c.refused-then-rows-n in
-    let if2 = c.if-rows-n in
-    let if1 = c.if-flight in
-    let a = c.args in
-    answered_short_cases a.q.flight.full a.q.flight.entered a.q.placed (advance_at a.cases.now a.ends.now)
-    a.rows.now a.positions.now if1.false refused2.result refused2.ensures if2.true
-
-pub returns-then-positions-n : goal.returns-then-positions-n
-returns-then-positions-n c =
-    let refused3 = c.refused-then-positions-n in
-    let if3 = c.if-positions-n in
-    let if2 = c.if-rows-n in
-    let if1 = c.if-flight in
-    let a = c.args in
-    answered_short_metres a.q.flight.full a.q.flight.entered a.q.placed (advance_at a.cases.now a.ends.now)
-    a.rows.now a.positions.now if1.false if2.false refused3.result refused3.ensures if3.true
+pub returns-then-state : goal.returns-then-state
+returns-then-state c =
+    let q = state_of c.args.state.now in
+    let keys = length q.front.entered in
+    let n = length c.as_slice-out.result.now in
+    let size = length-reverse c.args.state.now.found.out.items ∙ ap length (sym c.as_slice-out.ensures.value) in
+    elim c.then-state.branch [
+      | then-state-via-then-state w ↦
+          answered_full q.front.full keys n q.found.out c.args.rows.now c.args.positions.now size (refusal 14) refl w.if-state.true
+      | then-state-via-else-state+then-rows-n w ↦
+          answered_short_cases q.front.full keys n q.found.out c.args.rows.now c.args.positions.now size w.if-state.false (refusal 14) refl
+          w.if-rows-n.true
+      | then-state-via-else-state+else-rows-n+then-positions-n w ↦
+          answered_short_metres q.front.full keys n q.found.out c.args.rows.now c.args.positions.now size w.if-state.false w.if-rows-n.false
+          (refusal 14) refl w.if-positions-n.true
+    ]
 
 pub returns : goal.returns
 returns c =
-    let write-answers = c.write_answers in
-    let if3 = c.if-positions-n in
-    let if2 = c.if-rows-n in
-    let if1 = c.if-flight in
-    let a = c.args in
-    answered_whole a.q.flight.full a.q.flight.entered a.q.placed (advance_at a.cases.now a.ends.now) a.rows.now
-    a.positions.now if1.false if2.false if3.false _ _ write-answers.ensures.0 write-answers.ensures.1
+    let q = state_of c.args.state.now in
+    let out = c.args.state.now.found.out.items in
+    let same = c.as_slice-out.ensures.value in
+    let keys : c.len.result ≡ length q.front.entered = c.len.ensures.value ∙ sym (length-reverse c.args.state.now.front.keys.items) in
+    rw keys
+    (answered_whole q.front.full (length q.front.entered) (length c.as_slice-out.result.now) q.found.out c.args.rows.now c.args.positions.now
+    (length-reverse out ∙ ap length (sym same)) c.if-state.false c.if-rows-n.false c.if-positions-n.false _ _
+    (c.write_answers.ensures.rows ∙ rw same) (c.write_answers.ensures.positions ∙ rw same))

@@ -1,67 +1,38 @@
 -- The rows of the first i places stand at the front of the lists.
-use native.Mathlib.Omega.{arith}
-use mathlib.Core.Path.{◌≡◌, refl, ◌∙◌}
-use Prim.Native.Nat.{◌-◌, ◌≤◌}
-use lib.ListN.{length}
+use Rattle.std.specs.Prelude.{◌≡◌, ℕ, ◌+◌, ◌<◌, List, ◌∷◌, reverse, take, length, get_or}
+use Rattle.std.proofs.Common.{ap, sym, ◌∙◌, arith}
+use Rattle.std.proofs.lemmas.List.{length-reverse, length-take-le, take_more, take_all}
 use Rattle.geometry.specs.Over.{over}
+use Rattle.branches.specs.HeldLaws.{pushed}
+use Rattle.ends.specs.declared.Advance.{Advance}
 use Rattle.advance.specs.Advance.{rows_of, case_row, metre_row}
-use Rattle.branches.specs.Held.{held_by}
-use Rattle.ends.specs.Held.{advance_at}
 use Rattle.advance.specs.QueryLaws.{nothing_written, cases_next, metres_next}
 use Rattle.advance.proofs.write_answers.Goals as goal
 
+-- one place more
+next : (out : List Advance) (i : ℕ) (d : Advance) → i < length out → reverse (take (i + 1) out) ≡ get_or out i d ∷ reverse (take i out)
+next out i d h = ap reverse (take_more out i d h) ∙ pushed (take i out) (get_or out i d)
+
 pub loop-i-init : goal.loop-i-init
-loop-i-init c =
-    let a = c.args in (
-      omega arith,
-      refl,
-      refl,
-      nothing_written case_row (advance_at a.cases.now a.ends.now) a.rows.now,
-      nothing_written metre_row (advance_at a.cases.now a.ends.now) a.positions.now,
-    )
-
-pub advance_at-requires : goal.advance_at-requires
-advance_at-requires c =
-    let p = c.requires in
-    let t = c.loop-i-test.true in
-    (omega (arith, p.0), omega (arith, p.1))
-
-pub write_advance-requires : goal.write_advance-requires
-write_advance-requires c =
-    let p = c.requires in
-    let i = c.loop-i.invariant in
-    let t = c.loop-i-test.true in
-    (omega (arith, p.2, i.1), omega (arith, p.3, i.2))
-
-pub overflow_add-i : goal.overflow_add-i
-overflow_add-i c = omega (arith, c.loop-i-test.true)
-
-pub loop-i-smaller : goal.loop-i-smaller
-loop-i-smaller c = omega (arith, c.loop-i-test.true)
+loop-i-init c = record { rows = nothing_written case_row c.args.rows.now; positions = nothing_written metre_row c.args.positions.now }
 
 pub loop-i-preserved : goal.loop-i-preserved
 loop-i-preserved c =
-    let write-advance = c.write_advance in
-    let advance-at = c.advance_at in
-    let loop-test = c.loop-i-test in
-    let loop = c.loop-i in
-    let a = c.args in
-    let p = c.requires in
-    let i = loop.invariant in
-    let t = loop-test.true in
-    let f = advance_at a.cases.now a.ends.now in
-    let x = write-advance.auto in (
-      omega arith,
-      x.cases ∙ i.1,
-      x.metres ∙ i.2,
-      write-advance.ensures.0 ∙ cases_next f loop.i advance-at.result advance-at.ensures a.rows.now loop.rows i.3
-          (omega (arith, p.2)),
-      write-advance.ensures.1 ∙ metres_next f loop.i advance-at.result advance-at.ensures a.positions.now loop.positions
-          i.4 (omega (arith, p.3)),
-    )
+    let out = c.args.out.now in
+    let l = c.loop-i in
+    let long = length-reverse (take l.i out) ∙ length-take-le l.i out (omega arith) in
+    record {
+      rows =
+          c.write.ensures.rows ∙ cases_next (reverse (take l.i out)) _ l.i long c.args.rows.now l.rows l.invariant.rows (omega arith)
+          ∙ ap (λ (xs : List Advance). over (rows_of case_row xs) c.args.rows.now) (sym (next out l.i _ c.loop-i-test.true));
+      positions =
+          c.write.ensures.positions
+          ∙ metres_next (reverse (take l.i out)) _ l.i long c.args.positions.now l.positions l.invariant.positions (omega arith)
+          ∙ ap (λ (xs : List Advance). over (rows_of metre_row xs) c.args.positions.now) (sym (next out l.i _ c.loop-i-test.true));
+    }
 
-pub returns : goal.returns
-returns c =
-    let i = c.loop-i.invariant in
-    let all : c.loop-i.i ≡ c.args.n = omega (arith, c.loop-i-test.false, i.0) in
-    (rw all at i.3, rw all at i.4)
+pub returns-clause-rows : goal.returns-clause-rows
+returns-clause-rows c = rw (take_all c.loop-i.i c.args.out.now c.loop-i-test.false) at c.loop-i.invariant.rows
+
+pub returns-clause-positions : goal.returns-clause-positions
+returns-clause-positions c = rw (take_all c.loop-i.i c.args.out.now c.loop-i-test.false) at c.loop-i.invariant.positions

@@ -1,5 +1,4 @@
 -- `advance` opens the plan; a refused file gets its number and leaves the lists, an accepted one is moved on along its rows.
-use borrow.Author.Rules.{rules}
 use native.Mathlib.Omega.{arith}
 use mathlib.Core.Path.{ap}
 use Rattle.plan_format.specs.Laws.{Bytes}

@@ -1,5 +1,4 @@
 -- `beside` opens the plan; a refused file gets its number, an accepted one the lane beside from its rows.
-use borrow.Author.Rules.{rules}
 use native.Mathlib.Omega.{arith}
 use Rattle.plan_format.specs.Laws.{Bytes}
 use Rattle.plan_format.specs.Plan.{Decoded}

@@ -5,8 +5,8 @@ use borrow.Author.Rules.{rules}
 use Rattle.queries_c.specs.Hit.{as_hit}
 use Rattle.queries_c.proofs.kartsodi_nearest_indexed.Goals as goal
 
-pub returns-in-Found : goal.returns-in-Found
-returns-in-Found c = ap as_hit (sym c.in-Found.is ∙ c.nearest_lane.ensures)
+pub returns-in-Some : goal.returns-in-Some
+returns-in-Some c = ap as_hit (sym c.in-Some.is ∙ c.nearest_lane.ensures)
 
 pub returns-in-None : goal.returns-in-None
 unfolding of_bits

@@ -1,5 +1,4 @@
 -- `advance` takes the steps of `toward`, one equation each.
-use borrow.Author.Rules.{rules}
 use mathlib.Core.Path.{◌≡◌}
 use lib.Ieee.{Float, add, binary32, mul, sub}
 use Rattle.float.specs.Choose.{clamp_of, max_of, min_of}

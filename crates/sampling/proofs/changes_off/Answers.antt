@@ -1,5 +1,4 @@
 -- `changes_off` asks the neighbours, then the successors; each run of links has its count of rows.
-use borrow.Author.Rules.{rules}
 use native.Mathlib.Omega.{arith}
 use mathlib.Core.Bool.{Bool, not, ◌&&◌}
 use mathlib.Core.Path.{◌≡◌, ◌∙◌, ap, ap₂, sym}

@@ -1,5 +1,4 @@
 -- The goal within the lane where it lies ahead, else the entry.
-use borrow.Author.Rules.{rules}
 use mathlib.Core.Bool.{Bool, cond}
 use mathlib.Core.List.{List}
 use mathlib.Core.Path.{◌≡◌, ◌∙◌, ap, sym}
@@ -16,19 +15,16 @@ picks : (lanes : List ℕ) (cumulative : List Float) (i : ℕ) (entry goalS len 
 unfolding exit_at
 picks lanes cumulative i entry goalS len goal b e f g = rw (g, f, e)
 
-pub lane_length-requires : goal.lane_length-requires
-lane_length-requires c = c.requires
-
 pub returns-then-ahead : goal.returns-then-ahead
 returns-then-ahead c =
     let a = c.args in
-    let p = picks a.lanes.now a.cumulative.now a.i a.entry a.goal_s c.lane_length.result c.clamp-goal.result
-    c.ahead.result c.lane_length.ensures c.clamp-goal.ensures c.ahead.ensures in
+    let p = picks a.lanes.now.rows.now a.lanes.now.cumulative.now a.i a.entry a.goal_s c.length.result c.clamp-goal.result
+    c.ahead.result c.length.ensures c.clamp-goal.ensures c.ahead.ensures in
     sym (p ∙ ap (λ (b : Bool). cond b c.clamp-goal.result a.entry) c.if-ahead.true)
 
 pub returns : goal.returns
 returns c =
     let a = c.args in
-    let p = picks a.lanes.now a.cumulative.now a.i a.entry a.goal_s c.lane_length.result c.clamp-goal.result
-    c.ahead.result c.lane_length.ensures c.clamp-goal.ensures c.ahead.ensures in
+    let p = picks a.lanes.now.rows.now a.lanes.now.cumulative.now a.i a.entry a.goal_s c.length.result c.clamp-goal.result
+    c.ahead.result c.length.ensures c.clamp-goal.ensures c.ahead.ensures in
     sym (p ∙ ap (λ (b : Bool). cond b c.clamp-goal.result a.entry) c.if-ahead.false)

@@ -1,11 +1,6 @@
 -- The end of the lane, or at most 10 m on where the lane is left by a change.
-use borrow.Author.Rules.{rules}
 use Rattle.sampling.specs.Sampling.{exit_for}
 use Rattle.sampling.proofs.exit_for.Goals as goal
-
-pub travel_end-end-requires : goal.travel_end-end-requires
-travel_end-end-requires c =
-    (c.requires.0, c.requires.1)
 
 pub changes_off-requires : goal.changes_off-requires
 changes_off-requires c = c.requires.2

@@ -1,5 +1,4 @@
 -- The first point is kept; another by its squared distance from the last.
-use borrow.Author.Rules.{rules}
 use borrow.Author.Tests.{le-ltb, lt-ltb}
 use Rattle.sampling.specs.Kept.{is_fresh}
 use Rattle.sampling.proofs.is_fresh.Goals as goal

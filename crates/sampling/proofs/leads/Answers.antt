@@ -1,8 +1,7 @@
 -- `leads` looks at row after row. Its loop keeps `Leading`: the rows left say what all say.
 use native.Mathlib.Omega.{arith}
 use mathlib.Core.Path.{refl}
-use Prim.Native.Nat.{◌-◌}
-use Rattle.sampling.specs.Passes.{Leading, leading_ends, leading_found, leading_next}
+use Rattle.sampling.specs.Passes.{leading_ends, leading_found, leading_next}
 use Rattle.sampling.proofs.leads.Goals as goal
 
 pub loop-at-init : goal.loop-at-init

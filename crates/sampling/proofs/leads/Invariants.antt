@@ -1,8 +1,6 @@
 -- `leads` looks at row after row. Its loop keeps `Leading`: the rows left say what all say.
-use native.Mathlib.Omega.{arith}
-use mathlib.Core.Path.{refl}
 use Prim.Native.Nat.{◌-◌}
-use Rattle.sampling.specs.Passes.{Leading, leading_ends, leading_found, leading_next}
+use Rattle.sampling.specs.Passes.{Leading}
 use Rattle.sampling.proofs.leads.Given as goal
 
 abbrev pub invariant-loop-at : goal.invariant-loop-at

@@ -1,5 +1,4 @@
 -- What is kept, and what is written, by whether the point is fresh.
-use borrow.Author.Rules.{rules}
 use mathlib.Core.Path.{refl}
 use Rattle.sampling.proofs.push_dedup.Goals as goal
 

@@ -1,5 +1,4 @@
 -- Nothing is written where the list has no room for the point.
-use borrow.Author.Rules.{rules}
 use native.Mathlib.Omega.{arith}
 use borrow.Author.Tests.{le-ltb, lt-ltb}
 use lib.ListN.{length-set}

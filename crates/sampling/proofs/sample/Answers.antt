@@ -1,5 +1,4 @@
 -- The sample lies at `sample_at`, one equation each step.
-use borrow.Author.Rules.{rules}
 use mathlib.Core.Path.{◌≡◌, ◌∙◌, ap}
 use Prim.Native.Nat.{ℕ}
 use lib.Ieee.{Float, add, binary32, div, mul, of_int}

@@ -1,31 +1,25 @@
 -- `sample_route` keeps `Routing`: the lanes left make of the points now all the points of the path. It stops once there is no room.
-use borrow.Author.Rules.{rules}
 use native.Mathlib.Omega.{arith}
-use mathlib.Core.Path.{◌≡◌, ◌∙◌, ap, refl}
-use Prim.Native.Nat.{◌-◌}
+use mathlib.Core.Path.{◌∙◌, ap, refl}
 use lib.Ieee.{Float}
 use lib.ListN.{get_or, length}
 use Rattle.coords.specs.Coords.{zero⁺}
 use Rattle.coords.specs.declared.Point.{Point}
 use Rattle.float.specs.Choose.{clamp_of}
-use Rattle.sampling.specs.Passes.{Routing, length_laid, routing_ends, routing_next, routing_starts, routing_stops}
-use Rattle.sampling.specs.Sampling.{entry_on, route_tables, sample_route}
+use Rattle.sampling.specs.Passes.{length_laid, routing_ends, routing_next, routing_starts, routing_stops}
+use Rattle.sampling.specs.Sampling.{entry_on, route_tables}
 use Rattle.sampling.proofs.sample_route.Goals as goal
 
 pub bounds-path-0 : goal.bounds-path-0
 bounds-path-0 c =
     omega (arith, c.requires.0.some)
 
-pub lane_length-requires : goal.lane_length-requires
-lane_length-requires c =
-    let l = c.requires.1 _ (c.requires.0.each 0 c.requires.0.some) in (l.lane_row, l.arcs_end, omega (arith, l.line.two))
-
 pub loop-k-init : goal.loop-k-init
 loop-k-init c =
     let a = c.args in
     let T = route_tables a.lanes.now a.points.now a.cumulative.now a.fans.now a.links.now in (
       routing_starts T a.goal_s a.path.now a.n a.start_s c.clamp-entry.result a.out.now a.room c.requires.0
-          (c.clamp-entry.ensures ∙ ap (λ (x : Float). clamp_of a.start_s zero⁺ x) c.lane_length.ensures),
+          (c.clamp-entry.ensures ∙ ap (λ (x : Float). clamp_of a.start_s zero⁺ x) c.length.ensures),
       refl,
     )
 
@@ -34,18 +28,6 @@ offset_bounds-path-k c = omega (arith, c.loop-k-test.true)
 
 pub bounds-path-k : goal.bounds-path-k
 bounds-path-k c = omega (arith, c.loop-k-test.true)
-
-pub exit_for-exit-requires : goal.exit_for-exit-requires
-exit_for-exit-requires c = (
-  c.requires.1 _ c.loop-k.invariant.0.lane,
-  c.requires.1 _ (c.requires.0.each c.loop-k.k c.loop-k-test.true),
-  c.requires.2 _
-      c.loop-k.invariant.0.lane,
-)
-
-pub sample_lane-kept-requires : goal.sample_lane-kept-requires
-sample_lane-kept-requires c =
-    (c.requires.1 _ c.loop-k.invariant.0.lane, c.loop-k.invariant.0.few, c.requires.3)
 
 pub returns-then-room-kept : goal.returns-then-room-kept
 returns-then-room-kept c =
@@ -57,13 +39,28 @@ returns-then-room-kept c =
     _ _ (c.sample_lane-kept.ensures R.points a.out.now R.kept R.written) (get_or a.path.now l.k 0) c.loop-k-test.true refl
     c.exit_for-exit.ensures c.if-room-kept.true
 
+pub exit_for-exit-requires : goal.exit_for-exit-requires
+exit_for-exit-requires c =
+    let lane = c.loop-k.invariant.0.lane in
+    (lane, c.requires.0.each c.loop-k.k c.loop-k-test.true, c.requires.2 _ lane)
+
+pub sample_lane-kept-requires : goal.sample_lane-kept-requires
+sample_lane-kept-requires c = (c.loop-k.invariant.0.lane, c.loop-k.invariant.0.few, c.requires.3)
+
 pub point_on-requires : goal.point_on-requires
-point_on-requires c =
-    c.requires.1 _ c.loop-k.invariant.0.lane
+point_on-requires c = c.loop-k.invariant.0.lane
 
 pub entry_on-entry-requires : goal.entry_on-entry-requires
-entry_on-entry-requires c =
-    c.requires.1 _ (c.requires.0.each c.loop-k.k c.loop-k-test.true)
+entry_on-entry-requires c = c.requires.0.each c.loop-k.k c.loop-k-test.true
+
+pub exit_at-exit-requires : goal.exit_at-exit-requires
+exit_at-exit-requires c = c.loop-k.invariant.0.lane
+
+pub sample_lane-requires : goal.sample_lane-requires
+sample_lane-requires c = (c.loop-k.invariant.0.lane, c.loop-k.invariant.0.few, c.requires.3)
+
+pub length-requires : goal.length-requires
+length-requires c = c.requires.0.each 0 c.requires.0.some
 
 pub overflow_add-k : goal.overflow_add-k
 overflow_add-k c =
@@ -88,14 +85,6 @@ loop-k-preserved c =
     (c.entry_on-entry.ensures ∙ ap (λ (p : Point). entry_on a.lanes.now a.points.now a.cumulative.now next p)
     c.point_on.ensures) in
     (R', ap length R'.written ∙ length_laid R'.points a.out.now)
-
-pub exit_at-exit-requires : goal.exit_at-exit-requires
-exit_at-exit-requires c =
-    let l = c.requires.1 _ c.loop-k.invariant.0.lane in (l.lane_row, l.arcs_end, omega (arith, l.line.two))
-
-pub sample_lane-requires : goal.sample_lane-requires
-sample_lane-requires c =
-    (c.requires.1 _ c.loop-k.invariant.0.lane, c.loop-k.invariant.0.few, c.requires.3)
 
 pub returns : goal.returns
 returns c =

@@ -1,17 +1,11 @@
 -- `sample_segment` keeps `Sampling`: the samples left make of the points now all of them. It stops once there is no room.
-use borrow.Author.Rules.{rules}
 use native.Mathlib.Omega.{arith}
-use mathlib.Core.List.{List}
 use mathlib.Core.Path.{◌≡◌, ◌∙◌, ap, refl}
 use lib.ListN.{length}
-use Prim.Native.Nat.{◌+◌, ◌-◌, ◌≤◌}
-use lib.Ieee.{Float, binary32, sub}
-use Rattle.coords.specs.declared.Point.{Point}
+use lib.Ieee.{binary32, sub}
 use Rattle.geometry.specs.Locate.{point_along}
-use Rattle.sampling.specs.Kept.{kept_of, laid}
-use Rattle.sampling.specs.Passes.{Sampling, length_putting, sampled_as, sampling_ends, sampling_next, sampling_starts, sampling_stops}
+use Rattle.sampling.specs.Passes.{length_putting, sampled_as, sampling_ends, sampling_next, sampling_starts, sampling_stops}
 use Rattle.sampling.specs.Passes.{segment_point, segment_samples}
-use Rattle.sampling.specs.Sampling.{sample_from}
 use Rattle.sampling.proofs.sample_segment.Goals as goal
 
 pub point_at-requires : goal.point_at-requires

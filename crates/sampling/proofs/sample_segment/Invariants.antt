@@ -1,16 +1,13 @@
 -- `sample_segment` keeps `Sampling`: the samples left make of the points now all of them. It stops once there is no room.
-use borrow.Author.Rules.{rules}
-use native.Mathlib.Omega.{arith}
 use mathlib.Core.List.{List}
-use mathlib.Core.Path.{◌≡◌, ◌∙◌, ap, refl}
+use mathlib.Core.Path.{◌≡◌}
 use lib.ListN.{length}
 use Prim.Native.Nat.{◌+◌, ◌-◌, ◌≤◌}
-use lib.Ieee.{Float, binary32, sub}
+use lib.Ieee.{Float}
 use Rattle.coords.specs.declared.Point.{Point}
 use Rattle.geometry.specs.Locate.{point_along}
 use Rattle.sampling.specs.Kept.{kept_of, laid}
-use Rattle.sampling.specs.Passes.{Sampling, length_putting, sampled_as, sampling_ends, sampling_next, sampling_starts, sampling_stops}
-use Rattle.sampling.specs.Passes.{segment_point, segment_samples}
+use Rattle.sampling.specs.Passes.{Sampling}
 use Rattle.sampling.specs.Sampling.{sample_from}
 use Rattle.sampling.proofs.sample_segment.Given as goal
 

@@ -1,5 +1,4 @@
 -- `steps_of` takes the steps of `steps_of`, one equation each.
-use borrow.Author.Rules.{rules}
 use mathlib.Core.Path.{◌≡◌}
 use Prim.Native.Nat.{ℕ}
 use lib.Ieee.{Float, binary32, div, to_unsigned}
