@@ -1,8 +1,8 @@
 -- Each piece begins farther on in the file, so that they end: for a loop that writes them.
-use Rattle.std.specs.Prelude.{Bool, List}
+use Rattle.std.specs.Prelude.{Option, Some, None, Bool, List}
 use Rattle.std.proofs.Math.Bool.{cond, false, true}
 use Rattle.std.proofs.Math.Path.{refl, ◌≡◌}
-use Rattle.std.proofs.Common.{◌∙◌}
+use Rattle.std.proofs.Common.{ap, ◌∙◌}
 use Prim.Native.Nat.{suc, zero, ℕ, ◌+◌, ◌-◌, ◌<◌, ◌≤◌}
 use native.Mathlib.Omega.{arith}
 use Rattle.std.proofs.Math.ListN.{length}
@@ -10,17 +10,18 @@ use Rattle.fields.specs.Fields.{u16_at, u32_at}
 use Rattle.plan_format.specs.Plan.{Decoded, accepted, decode, fits, refused}
 use Rattle.plan_format.specs.Queries.{first_query, is_query, next_query, whole}
 use Rattle.plan_format.specs.Records.{query_at}
-use Rattle.plan_format.specs.declared.NextQuery.{NextQuery}
-use Rattle.plan_format.specs.declared.NextQuery.TheVariants.{End, Found}
 use Rattle.plan_format.specs.declared.Query.{Query}
 use Rattle.plan_queries.specs.Seeking.{whole_room}
 use Rattle.text.specs.Put.{puts_length}
 use Rattle.replies.specs.Printed.{Part, Writes, first_by, first_part, next_by, next_part, room}
 use Rattle.replies.specs.declared.Piece.{Piece}
 
+found_same : (x y : Query × ℕ) → Some x ≡ Some y → x ≡ y
+found_same x y e = cc
+
 module _ (s : List ℕ) (q : Query) (next : ℕ) where
   -- a query found stands from `at` on, whole, in the file
-  first_past : (k at : ℕ) (b : Bool) → whole s at ≡ b → first_query k b s at ≡ Found q next → (at < next) × (next ≤ length s)
+  first_past : (k at : ℕ) (b : Bool) → whole s at ≡ b → first_query k b s at ≡ Some (q, next) → (at < next) × (next ≤ length s)
   unfolding first_query
   first_past zero at b w e = let z : ◌≡◌ {A = ℕ} 0 1 = cc in absurd (omega arith)
   first_past (suc k) at false w e = let z : ◌≡◌ {A = ℕ} 0 1 = cc in absurd (omega arith)
@@ -29,16 +30,18 @@ module _ (s : List ℕ) (q : Query) (next : ℕ) where
       (first_past k (at + 6 + u32_at s at) (whole s (at + 6 + u32_at s at)) refl)
     where
       go : (a c : Bool)
-          → cond a (cond c (Found (query_at s at) (at + 6 + u32_at s at)) End)
-          (first_query k (whole s (at + 6 + u32_at s at)) s (at + 6 + u32_at s at)) ≡ Found q next
-          → (first_query k (whole s (at + 6 + u32_at s at)) s (at + 6 + u32_at s at) ≡ Found q next
+          → cond a (cond c (Some (query_at s at, at + 6 + u32_at s at)) None)
+          (first_query k (whole s (at + 6 + u32_at s at)) s (at + 6 + u32_at s at)) ≡ Some (q, next)
+          → (first_query k (whole s (at + 6 + u32_at s at)) s (at + 6 + u32_at s at) ≡ Some (q, next)
           → (at + 6 + u32_at s at < next) × (next ≤ length s))
           → (at < next) × (next ≤ length s)
-      go true true f rest = let n : at + 6 + u32_at s at ≡ next = cc in let r = whole_room s at w in omega arith
+      go true true f rest =
+          let n : at + 6 + u32_at s at ≡ next = ap (λ (x : Query × ℕ). x.1) (found_same _ _ f) in
+          let r = whole_room s at w in omega arith
       go true false f rest = let z : ◌≡◌ {A = ℕ} 0 1 = cc in absurd (omega arith)
       go false c f rest = let r = rest f in omega arith
 
-  next_past : (at : ℕ) → next_query s at ≡ Found q next → (at < next) × (next ≤ length s)
+  next_past : (at : ℕ) → next_query s at ≡ Some (q, next) → (at < next) × (next ≤ length s)
   unfolding next_query
   next_past at e = first_past (length s) at (whole s at) refl e
 
@@ -51,10 +54,10 @@ next_left : (f : List ℕ) (at : ℕ) → at ≤ length f
 unfolding next_by
 next_left f at h = by (next_query f at) refl
   where
-    by : (n : NextQuery) → next_query f at ≡ n
+    by : (n : Option (Query × ℕ)) → next_query f at ≡ n
         → ((next_by f at n).next ≤ length f) × (left (length f) (next_by f at n).more (next_by f at n).next < left (length f) true at)
-    by (Found q next) e = let r = next_past f q next at e in omega arith
-    by End e = omega arith
+    by (Some (q, next)) e = let r = next_past f q next at e in omega arith
+    by None e = omega arith
 
 -- ---- what a loop over the pieces finds
 

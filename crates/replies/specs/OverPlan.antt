@@ -25,7 +25,7 @@ use Rattle.plan_format.specs.Records.{advance_at, beside_at, query_at, route_at}
 use Rattle.plan_format.specs.Tables.{rows}
 use Rattle.plan_format.specs.declared.Query.{Query}
 use Rattle.plan_format.specs.declared.Query.TheVariants.{Advance, Beside, Route}
-use Rattle.plan_scan.specs.Scan.{Passes, passed_by}
+use Rattle.plan_scan.specs.Scan.{Passes, passed}
 use Rattle.text.specs.Lines.{plan_line}
 use Rattle.replies.specs.Printed.{advance_text_of, beside_text_of, chain_list, metre_list, printed, printed_by, replies_to, reply_to, route_text_of}
 use Rattle.replies.specs.Printed.{row_list, waypoint_list}
@@ -123,7 +123,7 @@ module _ (s : List ℕ) where
   sided_step k at a b go false z f S p = sided_end a b p S
   sided_step k at a b go true true f S p =
       let v = eqb-true (record_number s at (counts_of a)) 0 f in
-      let P = passed_by s at (counts_of a) (record_number s at (counts_of a)) refl v in
+      let P = passed s at (counts_of a) v in
       go (at + 6 + u32_at s at) (with_record at (u16_at s (at + 4)) (items_at s at (u16_at s (at + 4))) a)
       (sided_one at (items_at s at (u16_at s (at + 4))) a P.ok S) (simp f at p)
   sided_step k at a b go true false f S p =

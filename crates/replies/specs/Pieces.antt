@@ -1,12 +1,10 @@
 -- The pieces that the program writes, one after the other, are the whole text of the file: each call leaves its piece in the bytes that the
 -- program then writes, and the pieces' texts joined are the file's.
-use Rattle.std.specs.Prelude.{false, true, ◌≡◌, ℕ, ◌≤◌, length, take}
+use Rattle.std.specs.Prelude.{Option, Some, None, false, true, ◌≡◌, ℕ, ◌≤◌, length, take}
 use Rattle.std.proofs.Common.{true≢false, ap, sym, ◌∙◌, arith}
 use mathlib.Core.List.{List, [], ◌++◌, ◌∷◌}
 use Rattle.std.proofs.Math.Path.{refl, subst}
 use Rattle.plan_format.specs.Plan.{Decoded, accepted, decode, refused}
-use Rattle.plan_format.specs.declared.NextQuery.{NextQuery}
-use Rattle.plan_format.specs.declared.NextQuery.TheVariants.{End, Found}
 use Rattle.plan_format.specs.declared.Query.{Query}
 use Rattle.plan_queries.specs.Followed.{Follows, queries_follow}
 use Rattle.text.specs.Put.{puts_front}
@@ -29,10 +27,10 @@ pub data Pieces (f : List ℕ) : Part → List ℕ → Type 0 where
 module _ (f : List ℕ) where
   follow : (at : ℕ) (qs : List Query) → Follows f at qs → Pieces f (next_part f at) (replies_to f qs)
   unfolding replies_to next_by
-  follow at [] (Follows.done m e) = subst (λ (n : NextQuery). Pieces f (next_by f at n) []) (sym e) (last (next_by f at End) refl)
+  follow at [] (Follows.done m e) = subst (λ (n : Option (Query × ℕ)). Pieces f (next_by f at n) []) (sym e) (last (next_by f at None) refl)
   follow at (q ∷ qs) (Follows.then m next r rs e F) =
-      subst (λ (n : NextQuery). Pieces f (next_by f at n) (reply_to f q ++ replies_to f qs)) (sym e)
-      (then (next_by f at (Found q next)) (replies_to f qs) refl (follow next qs F))
+      subst (λ (n : Option (Query × ℕ)). Pieces f (next_by f at n) (reply_to f q ++ replies_to f qs)) (sym e)
+      (then (next_by f at (Some (q, next))) (replies_to f qs) refl (follow next qs F))
 
   pieces_by : (d : Decoded) → decode 0 f ≡ d → Pieces f (first_by d) (printed_by f d)
   unfolding first_by printed_by

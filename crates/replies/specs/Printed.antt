@@ -1,6 +1,6 @@
 -- What `plan-run` prints of a file (document 01, "Program plan-run"): its plan line, then the reply to each query in file order; of a refused file
 -- its plan line only. Whole, and as the pieces that the program writes one after the other. Definitions only.
-use Rattle.std.specs.Prelude.{Bool, false, true, List, [], ◌++◌, ◌∷◌, ◌≡◌, ℕ, ◌≤◌, Float, length, replicate}
+use Rattle.std.specs.Prelude.{Option, Some, None, Bool, false, true, List, [], ◌++◌, ◌∷◌, ◌≡◌, ℕ, ◌≤◌, Float, length, replicate}
 use Rattle.std.specs.Float.{binary32, binary64}
 use Rattle.std.specs.Float.Ieee.{of_bits}
 use Rattle.advance.specs.Advance.{Answer}
@@ -13,8 +13,6 @@ use Rattle.lanes_beside.specs.Beside.{centerline}
 use Rattle.lanes_route.specs.Route.{RouteLists, route_of}
 use Rattle.plan_format.specs.Plan.{Decoded, accepted, decode, refused}
 use Rattle.plan_format.specs.Queries.{next_query}
-use Rattle.plan_format.specs.declared.NextQuery.{NextQuery}
-use Rattle.plan_format.specs.declared.NextQuery.TheVariants.{End, Found}
 use Rattle.plan_format.specs.declared.Query.{Query}
 use Rattle.plan_format.specs.declared.Query.TheVariants.{Advance, Beside, Route}
 use Rattle.text.specs.Lines.{advance_text, beside_text, plan_line, route_text}
@@ -81,9 +79,9 @@ first_by (accepted p) = record { text = plan_line 0 (length p.lanes) (length p.l
 abbrev pub first_part : List ℕ → Part
 first_part f = first_by (decode 0 f)
 
-unfoldable pub next_by : List ℕ → ℕ → NextQuery → Part
-next_by f at (Found q next) = record { text = reply_to f q; more = true; next = next }
-next_by f at End = record { text = []; more = false; next = at }
+unfoldable pub next_by : List ℕ → ℕ → Option (Query × ℕ) → Part
+next_by f at (Some (q, next)) = record { text = reply_to f q; more = true; next = next }
+next_by f at None = record { text = []; more = false; next = at }
 
 -- the reply to the first query from `at` on; nothing where there is none
 abbrev pub next_part : List ℕ → ℕ → Part

@@ -1,5 +1,5 @@
 -- What the functions write are the pieces: the plan line from what `check` answers, then the reply to the query found.
-use Rattle.std.specs.Prelude.{Bool, List, ◌≡◌, ℕ, ◌+◌, ◌≤◌, eqb}
+use Rattle.std.specs.Prelude.{Option, Some, None, Bool, List, ◌≡◌, ℕ, ◌+◌, ◌≤◌, eqb}
 use Rattle.std.proofs.Math.Bool.{false, true}
 use Rattle.std.proofs.Math.Path.{ap, refl}
 use Rattle.std.proofs.Common.{subst, sym, ◌∙◌, arith}
@@ -10,8 +10,6 @@ use Rattle.plan_format.specs.Plan.{Decoded, accepted, decode, refused}
 use Rattle.plan_format.specs.Queries.{next_query}
 use Rattle.plan_format.specs.Reading.{opened, read_of}
 use Rattle.plan_format.specs.declared.Counts.{Counts}
-use Rattle.plan_format.specs.declared.NextQuery.{NextQuery}
-use Rattle.plan_format.specs.declared.NextQuery.TheVariants.{End, Found}
 use Rattle.plan_format.specs.declared.Query.{Query}
 use Rattle.plan_format.specs.declared.Read.{Read}
 use Rattle.tables.specs.Opening.{has_none, has_plan}
@@ -59,16 +57,16 @@ module _ (f : List ℕ) (B : Bytes f) (r : Read) (e : r ≡ read_of (decode 0 f)
 -- ---- the next piece
 
 module _ (f : List ℕ) (at : ℕ) where
-  next_as : (n : NextQuery) → next_query f at ≡ n → {r : Piece} {old new : List ℕ} → Writes (next_by f at n) r old new
+  next_as : (n : Option (Query × ℕ)) → next_query f at ≡ n → {r : Piece} {old new : List ℕ} → Writes (next_by f at n) r old new
       → Writes (next_part f at) r old new
-  next_as n q {r} {old} {new} W = subst (λ (x : NextQuery). Writes (next_by f at x) r old new) (sym q) W
+  next_as n q {r} {old} {new} W = subst (λ (x : Option (Query × ℕ)). Writes (next_by f at x) r old new) (sym q) W
 
-  pub next_written : (q : Query) (next : ℕ) → next_query f at ≡ Found q next → {old new : List ℕ} {len : ℕ}
+  pub next_written : (q : Query) (next : ℕ) → next_query f at ≡ Some (q, next) → {old new : List ℕ} {len : ℕ}
       → Puts (reply_to f q) 0 old new len × (len ≤ room)
       → Writes (next_part f at) (piece len true next) old new
   unfolding next_by
-  next_written q next e P = next_as (Found q next) e (record { puts = P.0; few = P.1; more = refl; next = refl })
+  next_written q next e P = next_as (Some (q, next)) e (record { puts = P.0; few = P.1; more = refl; next = refl })
 
-  pub next_none : next_query f at ≡ End → (old : List ℕ) → Writes (next_part f at) (piece 0 false at) old old
+  pub next_none : next_query f at ≡ None → (old : List ℕ) → Writes (next_part f at) (piece 0 false at) old old
   unfolding next_by
-  next_none e old = next_as End e (record { puts = puts_none old 0; few = omega arith; more = refl; next = refl })
+  next_none e old = next_as None e (record { puts = puts_none old 0; few = omega arith; more = refl; next = refl })

@@ -16,8 +16,9 @@ ghost use Rattle.replies.specs.Printed.{Writes, first_part, next_part, reply_to,
 
 use advance::Advanced;
 use beside::BesideAnswer;
-use plan_format::{LaneId, NextQuery, Query};
+use plan_format::{LaneId, Query, Read};
 use plan_queries::next_query;
+use plan_scan::RecordStarts;
 use route::RouteAnswer;
 
 // A piece of text: how many bytes it has, whether more follow, and from which place in the file on.
@@ -216,11 +217,10 @@ pub fn first_piece(file: &[u8], out: &mut [u8]) -> Piece
     requires { room ≤ length out.old }
     ensures { Writes (first_part file.now) result out.old out.new }
 {
-    // where the records start, as plan_scan has it: 256 lanes, 2,048 links, 64 sections, 256 places, and one entry that the queries share
-    let mut starts = [0usize; 2625];
+    let mut starts = RecordStarts::new();
     // the row of each lane number
     let mut index = [0u16; 65536];
-    let r = plan::check(file, 0, &mut starts, &mut index);
+    let r = Read::from(plan::check(file, 0, &mut starts, &mut index));
     let c = r.counts;
     let len = text::plan_text(r.number, c.lanes, c.links, out, 0);
     Piece {
@@ -236,12 +236,12 @@ pub fn next_piece(file: &[u8], at: usize, out: &mut [u8]) -> Piece
     ensures { Writes (next_part file.now at) result out.old out.new }
 {
     match next_query(file, at) {
-        NextQuery::Found(q, next) => Piece {
+        Some((q, next)) => Piece {
             len: reply(file, q, out),
             more: true,
             next,
         },
-        NextQuery::End => Piece {
+        None => Piece {
             len: 0,
             more: false,
             next: at,
