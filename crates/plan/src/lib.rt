@@ -62,6 +62,7 @@ pub fn check(
 }
 
 // The tables of an accepted file, from what `check` found.
+// Nine tables one by one, as C lends them: a struct of lent slices would owe a clause for each slice that it still is the one lent.
 pub fn load(
     file: &[u8],
     starts: &RecordStarts,

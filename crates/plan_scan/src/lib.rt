@@ -17,6 +17,7 @@ pub use starts::RecordStarts;
 
 mod starts;
 
+// Two widths, each with bounds of its own: one test for both would be passed the bounds.
 const LOW: f32 = -4096.0;
 
 fn is_coordinate(x: f32) -> bool
