@@ -55,12 +55,10 @@ pub fn build_cumulative(lanes: &[usize], n: usize, points: &[f32], cumulative: &
     requires { Rows lanes.now n points.now × (points_before lanes.now n ≤ length cumulative.old) }
     ensures { cumulative.new ≡ over (cumulative_rows lanes.now points.now n) cumulative.old }
 {
-    let mut i = 0;
-    while i < n {
+    for i in 0..n {
         let first = lanes[6 * i + 4];
         let count = lanes[6 * i + 5];
         write_lane_cumulative(points, first, count, cumulative);
-        i += 1;
     }
 }
 
@@ -70,11 +68,9 @@ pub fn build_tangents(lanes: &[usize], n: usize, points: &[f32], ends: &[f32], t
     ensures { tangents.new
         ≡ over (tangent_rows lanes.now points.now ends.now n) tangents.old }
 {
-    let mut i = 0;
-    while i < n {
+    for i in 0..n {
         let first = lanes[6 * i + 4];
         let count = lanes[6 * i + 5];
         write_lane_tangents(points, first, count, lane_ends(lanes, ends, i), tangents);
-        i += 1;
     }
 }

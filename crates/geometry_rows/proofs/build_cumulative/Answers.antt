@@ -1,11 +1,10 @@
 -- `build_cumulative` writes lane by lane: at each turn the rows of the lanes so far stand there.
-use mathlib.Core.Path.{◌≡◌, refl, ap, ◌∙◌}
-use Prim.Native.Nat.{ℕ, ◌-◌, ◌≤◌}
+use mathlib.Core.Path.{refl, ap, ◌∙◌}
 use native.Mathlib.Omega.{arith}
 use lib.ListN.{length}
 use Rattle.geometry.specs.Polyline.{cumulative_of}
 use Rattle.geometry.specs.PolylineLaws.{length_cumulative}
-use Rattle.geometry.specs.Over.{over, length_placed}
+use Rattle.geometry.specs.Over.{length_placed}
 use Rattle.rows.specs.Rows.{first_point, point_count, points_of}
 use Rattle.geometry_rows.specs.Rows.{cumulative_rows}
 use Rattle.geometry_rows.specs.RowsLaws.{lane_room, cumulative_rows_next}
@@ -13,31 +12,7 @@ use Rattle.geometry_rows.proofs.build_cumulative.Goals as goal
 
 pub loop-i-init : goal.loop-i-init
 unfolding cumulative_rows
-loop-i-init c = (omega arith, refl, refl)
-
-pub overflow_mul-first : goal.overflow_mul-first
-overflow_mul-first c = omega (arith, c.requires.0.held)
-
-pub overflow_add-first : goal.overflow_add-first
-overflow_add-first c = omega (arith, c.requires.0.held)
-
-pub offset_bounds-lanes-i : goal.offset_bounds-lanes-i
-offset_bounds-lanes-i c = omega (arith, c.requires.0.held)
-
-pub bounds-lanes-i : goal.bounds-lanes-i
-bounds-lanes-i c = omega (arith, c.requires.0.held)
-
-pub overflow_mul-count : goal.overflow_mul-count
-overflow_mul-count c = omega (arith, c.requires.0.held)
-
-pub overflow_add-count : goal.overflow_add-count
-overflow_add-count c = omega (arith, c.requires.0.held)
-
-pub offset_bounds-lanes-i-in-loop-i : goal.offset_bounds-lanes-i-in-loop-i
-offset_bounds-lanes-i-in-loop-i c = omega (arith, c.requires.0.held)
-
-pub bounds-lanes-i-in-loop-i : goal.bounds-lanes-i-in-loop-i
-bounds-lanes-i-in-loop-i c = omega (arith, c.requires.0.held)
+loop-i-init c = (refl, refl)
 
 pub write_lane_cumulative-requires : goal.write_lane_cumulative-requires
 write_lane_cumulative-requires c =
@@ -45,13 +20,7 @@ write_lane_cumulative-requires c =
     let r = c.requires in
     let room = lane_room c.args.lanes.now c.args.n c.args.points.now r.0 i
     c.loop-i-test.true in
-    omega (arith, r.0.some i c.loop-i-test.true, r.0.room, r.1, c.loop-i.invariant.1)
-
-pub overflow_add-i : goal.overflow_add-i
-overflow_add-i c = omega (arith, c.loop-i-test.true)
-
-pub loop-i-smaller : goal.loop-i-smaller
-loop-i-smaller c = omega (arith, c.loop-i-test.true)
+    omega (arith, r.0.some i c.loop-i-test.true, r.0.room, r.1, c.loop-i.invariant.0)
 
 pub loop-i-preserved : goal.loop-i-preserved
 loop-i-preserved c =
@@ -62,19 +31,8 @@ loop-i-preserved c =
     let lane = cumulative_of (points_of lanes a.points.now l.i) (point_count lanes l.i) in
     let room = lane_room lanes a.n a.points.now r.0 l.i c.loop-i-test.true in
     let long = length_cumulative (points_of lanes a.points.now l.i) (point_count lanes l.i) in (
-      omega (arith, c.loop-i-test.true),
       ap length c.write_lane_cumulative.ensures ∙ length_placed (first_point lanes l.i) lane
-          l.cumulative (omega (arith, r.1, l.invariant.1)) ∙ l.invariant.1,
+          l.cumulative (omega (arith, r.1, l.invariant.0)) ∙ l.invariant.0,
       c.write_lane_cumulative.ensures ∙ cumulative_rows_next lanes a.n a.points.now r.0 l.i
-          c.loop-i-test.true a.cumulative.now l.cumulative l.invariant.2,
+          c.loop-i-test.true a.cumulative.now l.cumulative l.invariant.1,
     )
-
-pub shape_of-cumulative : goal.shape_of-cumulative
-shape_of-cumulative c = c.loop-i.invariant.1
-
-pub returns : goal.returns
-returns c =
-    let a = c.args in
-    let l = c.loop-i in
-    let n : l.i ≡ a.n = omega arith in
-    l.invariant.2 ∙ ap (λ (k : ℕ). over (cumulative_rows a.lanes.now a.points.now k) a.cumulative.now) n

@@ -1,13 +1,13 @@
 -- `build_tangents` writes lane by lane: at each turn the rows of the lanes so far stand there.
-use mathlib.Core.Path.{◌≡◌, refl, ap, ◌∙◌}
-use Prim.Native.Nat.{ℕ, ◌-◌, ◌*◌, ◌≤◌}
+use mathlib.Core.Path.{refl, ap, ◌∙◌}
+use Prim.Native.Nat.{◌*◌}
 use native.Mathlib.Omega.{arith}
 use lib.ListN.{length}
 use Rattle.std.specs.Prelude.{Option}
 use Rattle.geometry.specs.declared.Ends.{Ends}
 use Rattle.geometry.specs.Polyline.{tangents_of}
 use Rattle.geometry.specs.PolylineLaws.{length_tangents}
-use Rattle.geometry.specs.Over.{over, placed, length_placed}
+use Rattle.geometry.specs.Over.{placed, length_placed}
 use Rattle.rows.specs.Rows.{first_point, point_count, points_of}
 use Rattle.geometry_rows.specs.Rows.{lane_ends, tangent_rows}
 use Rattle.geometry_rows.specs.RowsLaws.{lane_room, tangent_rows_next}
@@ -15,35 +15,7 @@ use Rattle.geometry_rows.proofs.build_tangents.Goals as goal
 
 pub loop-i-init : goal.loop-i-init
 unfolding tangent_rows
-loop-i-init c = (omega arith, refl, refl)
-
-pub overflow_mul-first : goal.overflow_mul-first
-overflow_mul-first c = omega (arith, c.requires.0.held)
-
-pub overflow_add-first : goal.overflow_add-first
-overflow_add-first c = omega (arith, c.requires.0.held)
-
-pub offset_bounds-lanes-i : goal.offset_bounds-lanes-i
-offset_bounds-lanes-i c = omega (arith, c.requires.0.held)
-
-pub bounds-lanes-i : goal.bounds-lanes-i
-bounds-lanes-i c = omega (arith, c.requires.0.held)
-
-pub overflow_mul-count : goal.overflow_mul-count
-overflow_mul-count c = omega (arith, c.requires.0.held)
-
-pub overflow_add-count : goal.overflow_add-count
-overflow_add-count c = omega (arith, c.requires.0.held)
-
-pub offset_bounds-lanes-i-in-loop-i : goal.offset_bounds-lanes-i-in-loop-i
-offset_bounds-lanes-i-in-loop-i c = omega (arith, c.requires.0.held)
-
-pub bounds-lanes-i-in-loop-i : goal.bounds-lanes-i-in-loop-i
-bounds-lanes-i-in-loop-i c = omega (arith, c.requires.0.held)
-
-pub lane_ends-requires : goal.lane_ends-requires
-lane_ends-requires c =
-    omega (arith, c.requires.0.held, c.requires.1.held, c.loop-i-test.true)
+loop-i-init c = (refl, refl)
 
 pub write_lane_tangents-requires : goal.write_lane_tangents-requires
 write_lane_tangents-requires c =
@@ -51,13 +23,7 @@ write_lane_tangents-requires c =
     let r = c.requires in
     let room = lane_room c.args.lanes.now c.args.n c.args.points.now r.0 i
     c.loop-i-test.true in
-    omega (arith, r.0.room, r.1.room, c.loop-i.invariant.1)
-
-pub overflow_add-i : goal.overflow_add-i
-overflow_add-i c = omega (arith, c.loop-i-test.true)
-
-pub loop-i-smaller : goal.loop-i-smaller
-loop-i-smaller c = omega (arith, c.loop-i-test.true)
+    omega (arith, r.0.room, r.1.room, c.loop-i.invariant.0)
 
 pub loop-i-preserved : goal.loop-i-preserved
 loop-i-preserved c =
@@ -72,18 +38,7 @@ loop-i-preserved c =
     let written = c.write_lane_tangents.ensures
     ∙ ap (λ (e : Option Ends). placed (3 * first_point lanes l.i) (tangents_of points (point_count lanes l.i) e) l.tangents)
     c.lane_ends.ensures in (
-      omega (arith, c.loop-i-test.true),
-      ap length written ∙ length_placed (3 * first_point lanes l.i) lane l.tangents (omega (arith, r.1.room, l.invariant.1)) ∙ l.invariant.1,
+      ap length written ∙ length_placed (3 * first_point lanes l.i) lane l.tangents (omega (arith, r.1.room, l.invariant.0)) ∙ l.invariant.0,
       written ∙ tangent_rows_next lanes a.n a.points.now r.0 l.i c.loop-i-test.true a.tangents.now
-          l.tangents a.ends.now l.invariant.2,
+          l.tangents a.ends.now l.invariant.1,
     )
-
-pub shape_of-tangents : goal.shape_of-tangents
-shape_of-tangents c = c.loop-i.invariant.1
-
-pub returns : goal.returns
-returns c =
-    let a = c.args in
-    let l = c.loop-i in
-    let n : l.i ≡ a.n = omega arith in
-    l.invariant.2 ∙ ap (λ (k : ℕ). over (tangent_rows a.lanes.now a.points.now a.ends.now k) a.tangents.now) n

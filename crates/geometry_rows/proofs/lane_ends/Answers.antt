@@ -1,5 +1,4 @@
 -- `lane_ends` reads the two tangents, and whether the lane gives them.
-use borrow.Author.Rules.{rules}
 use Rattle.geometry_rows.specs.RowsLaws.{ends_none, ends_given}
 use Rattle.geometry_rows.proofs.lane_ends.Goals as goal
 
