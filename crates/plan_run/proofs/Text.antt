@@ -1,55 +1,60 @@
 -- What is written of the text of a file, and what is still to come, as `run` writes it piece by piece.
-use Rattle.std.proofs.Common.{Bool, false, true, List, [], ◌++◌, ◌≡◌, ℕ, ◌≤◌, Option, refl, sym, ap, subst, ◌∙◌, length, take, append-nil, append_assoc}
+use Rattle.std.proofs.Common.{Bool, cond, List, [], ◌++◌, ◌≡◌, ℕ, Option, None, Some, refl, sym, ap, subst, ◌∙◌, append-nil, append_assoc}
 use Rattle.std.specs.Io.KnownBytes.{Appends}
 use Rattle.std.proofs.KnownBytes.{Appends-trans}
 use Rattle.replies.specs.Pieces.{Pieces, printed_pieces, written_text}
-use Rattle.replies.specs.Printed.{Part, Writes, first_part, next_part, printed, room}
-use Rattle.replies.specs.declared.Piece.{Piece}
+use Rattle.replies.specs.Printed.{Part, Writes, after, first_part, next_part, printed}
+use Rattle.arrayvec.specs.ArrayVec.{ArrayVec}
 
--- the text after a piece
-abbrev pub Rest : List ℕ → Bool → ℕ → List ℕ → Type 0
-Rest f false next rest = rest ≡ []
-Rest f true next rest = Pieces f (next_part f next) rest
+-- the text after a piece, where the next ones follow from `next` on
+abbrev pub Rest : List ℕ → Option ℕ → List ℕ → Type 0
+Rest f None rest = rest ≡ []
+Rest f (Some next) rest = Pieces f (next_part f next) rest
 
-after : (f : List ℕ) (x : Part) (text : List ℕ) → Pieces f x text → (rest : List ℕ) × (text ≡ x.text ++ rest) × Rest f x.more x.next rest
-after f x text (Pieces.last y e) = ([], sym (append-nil y.text), subst (λ (b : Bool). Rest f b y.next []) (sym e) refl)
-after f x text (Pieces.then y rest e P) = (rest, refl, subst (λ (b : Bool). Rest f b y.next rest) (sym e) P)
+follows : (f : List ℕ) (x : Part) (text : List ℕ) → Pieces f x text → (rest : List ℕ) × (text ≡ x.text ++ rest) × Rest f (after x) rest
+follows f x text (Pieces.last y e) = ([], sym (append-nil y.text), subst (λ (b : Bool). Rest f (cond b (Some y.next) None) []) (sym e) refl)
+follows f x text (Pieces.then y rest e P) = (rest, refl, subst (λ (b : Bool). Rest f (cond b (Some y.next) None) rest) (sym e) P)
 
 -- of the text of f, `done` was appended to what the writer held, and `rest` follows
-pub record Writing (f : List ℕ) (old new : Option (List ℕ)) (more : Bool) (next : ℕ) : Type 0 where
+pub record Writing (f : List ℕ) (old new : Option (List ℕ)) (next : Option ℕ) : Type 0 where
   pub done : List ℕ
   pub rest : List ℕ
   pub appended : Appends old new done
-  pub follows : Rest f more next rest
+  pub goes_on : Rest f next rest
   pub whole : done ++ rest ≡ printed f
 
-module _ (f : List ℕ) {r : Piece} {before buffer : List ℕ} (h : room ≤ length before) where
+-- where none follow, all is written
+pub finished : {f : List ℕ} {old new : Option (List ℕ)} → Writing f old new None → Appends old new (printed f)
+finished {f} {old} {new} T =
+    subst (Appends old new) (sym (append-nil T.done) ∙ ap (λ (t : List ℕ). T.done ++ t) (sym T.goes_on) ∙ T.whole) T.appended
+
+module _ (f : List ℕ) {next : Option ℕ} {page : ArrayVec ℕ} where
   -- after the first piece
-  pub begun : {old new : Option (List ℕ)} → Writes (first_part f) r before buffer → Appends old new (take r.len buffer) → Writing f old new r.more r.next
-  begun {old} {new} W A =
-      let (rest, whole, follows) = after f (first_part f) (printed f) (printed_pieces f) in
+  pub begun : {old new : Option (List ℕ)} → {bytes : List ℕ} → Writes (first_part f) next page → bytes ≡ page.items
+      → Appends old new bytes → Writing f old new next
+  begun {old} {new} {bytes} W e A =
+      let (rest, whole, more) = follows f (first_part f) (printed f) (printed_pieces f) in
       record {
-        done = take r.len buffer;
+        done = page.items;
         rest = rest;
-        appended = A;
-        follows = rw (W.more, W.next) follows;
-        whole = ap (λ (t : List ℕ). t ++ rest) (written_text W h) ∙ sym whole;
+        appended = subst (Appends old new) e A;
+        goes_on = rw W.goes_on more;
+        whole = ap (λ (t : List ℕ). t ++ rest) (written_text W) ∙ sym whole;
       }
 
   -- after one more
-  pub further : {old mid new : Option (List ℕ)} {more : Bool} {next : ℕ} → Writing f old mid more next → more ≡ true
-      → Writes (next_part f next) r before buffer → Appends mid new (take r.len buffer) → Writing f old new r.more r.next
-  further {old} {mid} {new} {more} {next} T e W A =
-      let P : Pieces f (next_part f next) T.rest = subst (λ (b : Bool). Rest f b next T.rest) e T.follows in
-      let (rest, whole, follows) = after f (next_part f next) T.rest P in
+  pub further : {old mid new : Option (List ℕ)} {at : ℕ} {bytes : List ℕ} → Writing f old mid (Some at) → Writes (next_part f at) next page
+      → bytes ≡ page.items → Appends mid new bytes → Writing f old new next
+  further {old} {mid} {new} {at} {bytes} T W e A =
+      let (rest, whole, more) = follows f (next_part f at) T.rest T.goes_on in
       record {
-        done = T.done ++ take r.len buffer;
+        done = T.done ++ page.items;
         rest = rest;
-        appended = Appends-trans _ _ _ _ _ T.appended A;
-        follows = rw (W.more, W.next) follows;
+        appended = Appends-trans _ _ _ _ _ T.appended (subst (Appends mid new) e A);
+        goes_on = rw W.goes_on more;
         whole =
-            append_assoc T.done (take r.len buffer) rest
-            ∙ ap (λ (t : List ℕ). T.done ++ (t ++ rest)) (written_text W h)
+            append_assoc T.done page.items rest
+            ∙ ap (λ (t : List ℕ). T.done ++ (t ++ rest)) (written_text W)
             ∙ ap (λ (t : List ℕ). T.done ++ t) (sym whole)
             ∙ T.whole;
       }

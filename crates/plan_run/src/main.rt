@@ -1,49 +1,44 @@
 // plan-run: reads a plan file on standard input and prints its plan line and the answer to each of its queries (document 01, "Program plan-run").
 #![tactic(auto)]
 
-ghost use Rattle.std.specs.Prelude.{◌≤◌, ◌<◌, length, take, IsTrue, OnOk};
+ghost use Rattle.std.specs.Prelude.{◌≤◌, ◌<◌, ℕ, length, take, IfOk, OnErr, OnOk};
 ghost use Rattle.std.specs.Io.KnownBytes.{Appends, Consumes, IsAtEnd};
 ghost use Rattle.replies.specs.Printed.{printed, room};
 
+use arrayvec::ArrayVec;
 use std::io;
 use std::io::{Read, Write};
 
-// How many bytes standard input gave, and whether no read failed.
-#[derive(Drop)]
-struct Input {
-    len: usize,
-    whole: bool,
-}
-
-// Reads to the end of the input, or until `file` is full. A read that fails ends it: what came before may look like a plan.
-fn read_file<R: Read>(from: &mut R, file: &mut [u8]) -> Input
-    ensures count { result.len ≤ length file.new }
-    ensures bytes { Consumes (R.remaining from.old) (R.remaining from.new) (take result.len file.new) }
-    ensures end { IsTrue result.whole → result.len < length file.new → IsAtEnd (R.remaining from.new) }
+// Reads to the end of the input, or until `file` is full: how many bytes came. A read that fails ends it, since what came before may look like a plan.
+fn read_file<R: Read>(from: &mut R, file: &mut [u8]) -> io::Result<usize>
+    ensures read { IfOk result (λ n. (n ≤ length file.new) × Consumes (R.remaining from.old) (R.remaining from.new) (take n file.new)
+        × (n < length file.new → IsAtEnd (R.remaining from.new))) }
+    ensures failed { OnErr result ((n : ℕ) × (n ≤ length file.new) × Consumes (R.remaining from.old) (R.remaining from.new) (take n file.new)) }
 {
     let mut len = 0;
     while len < file.len() {
-        match from.read(&mut file[len..]) {
-            Ok(0) => return Input { len, whole: true },
-            Ok(n) => len += n,
-            Err(_) => return Input { len, whole: false },
+        match from.read(&mut file[len..])? {
+            0 => break,
+            n => len += n,
         }
     }
-    Input { len, whole: true }
+    Ok(len)
 }
 
 // Writes the text of a file, piece by piece, up to the first that cannot be written: none may follow a part of another.
-fn run<W: Write>(file: &[u8], out: &mut [u8], to: &mut W) -> io::Result<()>
-    requires { room ≤ length out.old }
+fn run<W: Write, const N: usize>(
+    file: &[u8],
+    page: &mut ArrayVec<u8, N>,
+    to: &mut W,
+) -> io::Result<()>
+    requires { room ≤ N }
     ensures { OnOk result (Appends (W.contents to.old) (W.contents to.new) (printed file.now)) }
 {
-    let mut piece = replies::first_piece(file, out);
-    let mut len = piece.len;
-    to.write_all(&out[..len])?;
-    while piece.more {
-        piece = replies::next_piece(file, piece.next, out);
-        len = piece.len;
-        to.write_all(&out[..len])?;
+    let mut next = replies::first_piece(file, page);
+    to.write_all(page.as_slice())?;
+    while let Some(at) = next {
+        next = replies::next_piece(file, at, page);
+        to.write_all(page.as_slice())?;
     }
     Ok(())
 }
@@ -51,12 +46,10 @@ fn run<W: Write>(file: &[u8], out: &mut [u8], to: &mut W) -> io::Result<()>
 fn main(rt: HostRuntime) {
     // one byte more than a plan file may have, so that a longer one is told by its length
     let mut file = [0u8; 65537];
-    let input = read_file(&mut rt.stdin(), &mut file);
-    if !input.whole {
+    let Ok(n) = read_file(&mut rt.stdin(), &mut file) else {
         let _ = eprintln!(rt; "plan-run: standard input cannot be read");
         return;
-    }
-    let n = input.len;
-    let mut out = [0u8; 141928];
-    let _ = run(&file[..n], &mut out, &mut rt.stdout());
+    };
+    let mut page = ArrayVec::<u8, 141928>::new();
+    let _ = run(&file[..n], &mut page, &mut rt.stdout());
 }

@@ -1,8 +1,8 @@
 -- Each piece begins farther on in the file, so that they end: for a loop that writes them.
-use Rattle.std.specs.Prelude.{Option, Some, None, Bool, List}
+use Rattle.std.specs.Prelude.{Bool, IfSome, List, None, Option, Some}
 use Rattle.std.proofs.Math.Bool.{cond, false, true}
 use Rattle.std.proofs.Math.Path.{refl, ◌≡◌}
-use Rattle.std.proofs.Common.{ap, ◌∙◌}
+use Rattle.std.proofs.Common.{ap, subst, sym}
 use Prim.Native.Nat.{suc, zero, ℕ, ◌+◌, ◌-◌, ◌<◌, ◌≤◌}
 use native.Mathlib.Omega.{arith}
 use Rattle.std.proofs.Math.ListN.{length}
@@ -12,9 +12,8 @@ use Rattle.plan_format.specs.Queries.{first_query, is_query, next_query, whole}
 use Rattle.plan_format.specs.Records.{query_at}
 use Rattle.plan_format.specs.declared.Query.{Query}
 use Rattle.plan_queries.specs.Seeking.{whole_room}
-use Rattle.text.specs.Put.{puts_length}
-use Rattle.replies.specs.Printed.{Part, Writes, first_by, first_part, next_by, next_part, room}
-use Rattle.replies.specs.declared.Piece.{Piece}
+use Rattle.arrayvec.specs.ArrayVec.{ArrayVec}
+use Rattle.replies.specs.Printed.{Writes, after, first_by, first_part, next_by, next_part}
 
 found_same : (x y : Query × ℕ) → Some x ≡ Some y → x ≡ y
 found_same x y e = cc
@@ -61,21 +60,34 @@ next_left f at h = by (next_query f at) refl
 
 -- ---- what a loop over the pieces finds
 
--- the text of each lies in the buffer
-pub written_room : {x : Part} {r : Piece} {old new : List ℕ} → Writes x r old new → room ≤ length old
-    → (length new ≡ length old) × (room ≤ length new) × (r.len ≤ length new)
-written_room W h = let e = puts_length W.puts in let l = W.few in omega arith
+-- how much may be left of a file of n bytes where the pieces follow from `next` on
+abbrev pub to_come : ℕ → Option ℕ → ℕ
+to_come n None = 0
+to_come n (Some at) = left n true at
 
--- the first begins in the file
-pub first_start : (f : List ℕ) {r : Piece} {old new : List ℕ} → Writes (first_part f) r old new → r.next ≤ length f
+-- these begin in the file
+abbrev pub Begins : ℕ → Option ℕ → Type 0
+Begins n next = IfSome next (λ at. at ≤ n)
+
+-- the first begin in the file
+pub first_start : (f : List ℕ) {next : Option ℕ} {page : ArrayVec ℕ} → Writes (first_part f) next page → Begins (length f) next
 unfolding first_by
-first_start f W = let e = W.next ∙ by (decode 0 f) in omega arith
+first_start f {next} W = subst (Begins (length f)) (sym W.goes_on) (by (decode 0 f))
   where
-    by : (d : Decoded) → (first_by d).next ≡ 0
-    by (refused n) = refl
-    by (accepted p) = refl
+    by : (d : Decoded) → Begins (length f) (after (first_by d))
+    by (refused n) = tt
+    by (accepted p) = omega arith
+
+by_option : (n at : ℕ) (more : Bool) (next : ℕ) → next ≤ n → left n more next < left n true at
+    → Begins n (cond more (Some next) None) × (to_come n (cond more (Some next) None) < left n true at)
+by_option n at true next h l = (h, l)
+by_option n at false next h l = (tt, omega arith)
 
 -- after each less is left
-pub next_less : (f : List ℕ) (at : ℕ) (b : Bool) {r : Piece} {old new : List ℕ} → Writes (next_part f at) r old new → b ≡ true → at ≤ length f
-    → (r.next ≤ length f) × (left (length f) r.more r.next < left (length f) b at)
-next_less f at b W e h = rw (W.more, W.next, e) (next_left f at h)
+pub next_less : (f : List ℕ) (at : ℕ) {next : Option ℕ} {page : ArrayVec ℕ} → Writes (next_part f at) next page → at ≤ length f
+    → Begins (length f) next × (to_come (length f) next < left (length f) true at)
+next_less f at {next} W h =
+    let L = next_left f at h in
+    let x = next_part f at in
+    subst (λ (r : Option ℕ). Begins (length f) r × (to_come (length f) r < left (length f) true at)) (sym W.goes_on)
+    (by_option (length f) at x.more x.next L.0 L.1)

@@ -1,21 +1,20 @@
--- The pieces that the program writes, one after the other, are the whole text of the file: each call leaves its piece in the bytes that the
+-- The pieces that the program writes, one after the other, are the whole text of the file: each call leaves its piece on the page that the
 -- program then writes, and the pieces' texts joined are the file's.
-use Rattle.std.specs.Prelude.{Option, Some, None, false, true, ◌≡◌, ℕ, ◌≤◌, length, take}
-use Rattle.std.proofs.Common.{true≢false, ap, sym, ◌∙◌, arith}
+use Rattle.std.specs.Prelude.{Some, None, false, true, Option, ◌≡◌, ℕ}
+use Rattle.std.proofs.Common.{true≢false, ap, sym, ◌∙◌}
 use mathlib.Core.List.{List, [], ◌++◌, ◌∷◌}
 use Rattle.std.proofs.Math.Path.{refl, subst}
 use Rattle.plan_format.specs.Plan.{Decoded, accepted, decode, refused}
 use Rattle.plan_format.specs.declared.Query.{Query}
 use Rattle.plan_queries.specs.Followed.{Follows, queries_follow}
-use Rattle.text.specs.Put.{puts_front}
-use Rattle.replies.specs.Printed.{Part, Writes, first_by, first_part, next_by, next_part, printed, printed_by, replies_to, reply_to, room}
-use Rattle.replies.specs.declared.Piece.{Piece}
+use Rattle.arrayvec.specs.ArrayVec.{ArrayVec}
+use Rattle.replies.specs.Printed.{Part, Writes, first_by, first_part, next_by, next_part, printed, printed_by, replies_to, reply_to}
 
 -- ---- the bytes of a piece
 
--- THE LAW of a call: out[..len], which `plan-run` writes after it, are the bytes of the piece's text
-pub written_text : {x : Part} {r : Piece} {old new : List ℕ} → Writes x r old new → room ≤ length old → take r.len new ≡ x.text
-written_text W h = puts_front W.puts (omega (arith, W.puts.after, W.few))
+-- THE LAW of a call: the page, which `plan-run` writes after it, has the bytes of the piece's text
+pub written_text : {x : Part} {next : Option ℕ} {page : ArrayVec ℕ} → Writes x next page → page.items ≡ x.text
+written_text W = W.text
 
 -- ---- the pieces, one after the other
 

@@ -1,6 +1,6 @@
 -- What `plan-run` prints of a file (document 01, "Program plan-run"): its plan line, then the reply to each query in file order; of a refused file
 -- its plan line only. Whole, and as the pieces that the program writes one after the other. Definitions only.
-use Rattle.std.specs.Prelude.{Option, Some, None, Bool, false, true, List, [], ◌++◌, ◌∷◌, ◌≡◌, ℕ, ◌≤◌, Float, length, replicate}
+use Rattle.std.specs.Prelude.{Bool, cond, false, true, Option, None, Some, List, [], ◌++◌, ◌∷◌, ◌≡◌, ℕ, ◌≤◌, Float, length, replicate}
 use Rattle.std.specs.Float.{binary32, binary64}
 use Rattle.std.specs.Float.Ieee.{of_bits}
 use Rattle.advance.specs.Advance.{Answer}
@@ -16,8 +16,7 @@ use Rattle.plan_format.specs.Queries.{next_query}
 use Rattle.plan_format.specs.declared.Query.{Query}
 use Rattle.plan_format.specs.declared.Query.TheVariants.{Advance, Beside, Route}
 use Rattle.text.specs.Lines.{advance_text, beside_text, plan_line, route_text}
-use Rattle.text.specs.Put.{Puts}
-use Rattle.replies.specs.declared.Piece.{Piece}
+use Rattle.arrayvec.specs.ArrayVec.{ArrayVec}
 
 -- ---- the text of an answer
 
@@ -87,13 +86,16 @@ next_by f at None = record { text = []; more = false; next = at }
 abbrev pub next_part : List ℕ → ℕ → Part
 next_part f at = next_by f at (next_query f at)
 
--- a buffer has room for every piece where it holds 78 bytes, 26 for each of 257 chain lanes and 33 for each of 4,096 points
+-- a page has room for every piece where it holds 78 bytes, 26 for each of 257 chain lanes and 33 for each of 4,096 points
 abbrev pub room : ℕ
 room = 141928
 
--- the piece that a call answers is x, and its text stands at the front of the buffer, which held `old`
-pub record Writes (x : Part) (r : Piece) (old new : List ℕ) : Type 0 where
-  pub puts : Puts x.text 0 old new r.len
-  pub few : r.len ≤ room
-  pub more : r.more ≡ x.more
-  pub next : r.next ≡ x.next
+-- from which place in the file on the pieces after x follow, where there are any
+abbrev pub after : Part → Option ℕ
+after x = cond x.more (Some x.next) None
+
+-- the page has the text of the piece x alone, and `next` is where those after it follow
+pub record Writes (x : Part) (next : Option ℕ) (page : ArrayVec ℕ) : Type 0 where
+  pub text : page.items ≡ x.text
+  pub few : length page.items ≤ room
+  pub goes_on : next ≡ after x

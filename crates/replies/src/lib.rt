@@ -2,35 +2,55 @@
 // call, from the file's bytes, over tables that live for that call alone.
 #![tactic(auto)]
 
-ghost use Rattle.std.specs.Prelude.{◌≡◌, ◌≤◌, length};
-ghost use Rattle.advance.specs.InPlan.{advance_of};
-ghost use Rattle.beside.specs.InPlan.{beside_of};
-ghost use Rattle.calling.specs.Calling.{point};
-ghost use Rattle.lanes_advance.specs.Advance.{position, with_lists};
-ghost use Rattle.lanes_beside.specs.Beside.{centerline};
-ghost use Rattle.lanes_route.specs.Route.{lists_of, route_of};
-ghost use Rattle.plan_format.specs.Plan.{decode};
+ghost use Rattle.std.specs.Prelude.{◌≡◌, ◌+◌, ◌≤◌, length};
+ghost use Rattle.arrayvec.specs.ArrayVec.{array_vec_len};
 ghost use Rattle.plan_format.specs.declared.Query.TheVariants.{Advance, Beside, Route};
-ghost use Rattle.text.specs.Put.{Puts};
+ghost use Rattle.text.specs.Page.{Adds};
+ghost use Rattle.replies.specs.Lent.{lent, lent_from};
 ghost use Rattle.replies.specs.Printed.{Writes, first_part, next_part, reply_to, room};
 
-use advance::Advanced;
-use beside::BesideAnswer;
+use arrayvec::ArrayVec;
 use plan_format::{LaneId, Query, Read};
 use plan_queries::next_query;
 use plan_scan::RecordStarts;
-use route::RouteAnswer;
 
-// A piece of text: how many bytes it has, whether more follow, and from which place in the file on.
-#[derive(Clone, Copy)]
-pub struct Piece {
-    pub len: usize,
-    pub more: bool,
-    pub next: usize,
+// The tables of a call, as long as the limits ask. The C interface takes them one by one.
+#[derive(Drop)]
+struct Tables {
+    lanes: [usize; 1536],
+    points: [f32; 12288],
+    ends: [f32; 1536],
+    fans: [usize; 1280],
+    links: [usize; 4096],
+    sections: [usize; 256],
+    bounds: [f64; 128],
+    stations: [f64; 4096],
+    places: [usize; 768],
+    cumulative: [f32; 4096],
+    tangents: [f32; 12288],
 }
 
-// The public call `route`, over tables of its own.
-fn ask_route(
+impl Tables {
+    fn new() -> Self
+        ensures { lent_from result ≡ lent }
+    {
+        Tables {
+            lanes: [0; 1536],
+            points: [0.0; 12288],
+            ends: [0.0; 1536],
+            fans: [0; 1280],
+            links: [0; 4096],
+            sections: [0; 256],
+            bounds: [0.0; 128],
+            stations: [0.0; 4096],
+            places: [0; 768],
+            cumulative: [0.0; 4096],
+            tangents: [0.0; 12288],
+        }
+    }
+}
+
+fn route_reply<const N: usize>(
     file: &[u8],
     x: f32,
     y: f32,
@@ -38,24 +58,15 @@ fn ask_route(
     u: f32,
     v: f32,
     w: f32,
-    chain: &mut [usize],
-    waypoints: &mut [f32],
-) -> RouteAnswer
-    ensures { lists_of result chain.new waypoints.new
-        ≡ route_of (decode 0 file.now) (point x y z) (point u v w) chain.old waypoints.old }
+    page: &mut ArrayVec<u8, N>,
+)
+    requires { array_vec_len page.old + room ≤ N }
+    ensures { Adds (reply_to file.now (Route x y z u v w)) room page.old page.new }
 {
-    let mut lanes = [0usize; 1536];
-    let mut points = [0f32; 12288];
-    let mut ends = [0f32; 1536];
-    let mut fans = [0usize; 1280];
-    let mut links = [0usize; 4096];
-    let mut sections = [0usize; 256];
-    let mut bounds = [0f64; 128];
-    let mut stations = [0f64; 4096];
-    let mut places = [0usize; 768];
-    let mut cumulative = [0f32; 4096];
-    let mut tangents = [0f32; 12288];
-    lanes::route(
+    let mut t = Tables::new();
+    let mut chain = [0usize; 257];
+    let mut waypoints = [0f32; 12288];
+    let a = lanes::route(
         file,
         x,
         y,
@@ -63,188 +74,141 @@ fn ask_route(
         u,
         v,
         w,
-        &mut lanes,
-        &mut points,
-        &mut ends,
-        &mut fans,
-        &mut links,
-        &mut sections,
-        &mut bounds,
-        &mut stations,
-        &mut places,
-        &mut cumulative,
-        &mut tangents,
-        chain,
-        waypoints,
-    )
+        &mut t.lanes,
+        &mut t.points,
+        &mut t.ends,
+        &mut t.fans,
+        &mut t.links,
+        &mut t.sections,
+        &mut t.bounds,
+        &mut t.stations,
+        &mut t.places,
+        &mut t.cumulative,
+        &mut t.tangents,
+        &mut chain,
+        &mut waypoints,
+    );
+    let lanes = &chain[..a.lanes];
+    let points = &waypoints[..3 * a.points];
+    text::route_text(page, a.number, a.length, lanes, points);
 }
 
-// The public call `advance`, over tables of its own.
-fn ask_advance(
+fn advance_reply<const N: usize>(
     file: &[u8],
     lane: LaneId,
     s: f64,
     offset: f64,
     distance: f64,
-    rows: &mut [usize],
-    metres: &mut [f64],
-) -> Advanced
-    ensures { with_lists result rows.new metres.new
-        ≡ advance_of (decode 0 file.now) (position lane s offset) distance rows.old metres.old }
+    page: &mut ArrayVec<u8, N>,
+)
+    requires { array_vec_len page.old + room ≤ N }
+    ensures { Adds (reply_to file.now (Advance lane s offset distance)) room page.old page.new }
 {
-    let mut lanes = [0usize; 1536];
-    let mut points = [0f32; 12288];
-    let mut ends = [0f32; 1536];
-    let mut fans = [0usize; 1280];
-    let mut links = [0usize; 4096];
-    let mut sections = [0usize; 256];
-    let mut bounds = [0f64; 128];
-    let mut stations = [0f64; 4096];
-    let mut places = [0usize; 768];
-    let mut cumulative = [0f32; 4096];
-    let mut tangents = [0f32; 12288];
-    lanes::advance(
+    let mut t = Tables::new();
+    let mut rows = [0usize; 512];
+    let mut metres = [0f64; 768];
+    let a = lanes::advance(
         file,
         lane,
         s,
         offset,
         distance,
-        &mut lanes,
-        &mut points,
-        &mut ends,
-        &mut fans,
-        &mut links,
-        &mut sections,
-        &mut bounds,
-        &mut stations,
-        &mut places,
-        &mut cumulative,
-        &mut tangents,
-        rows,
-        metres,
-    )
+        &mut t.lanes,
+        &mut t.points,
+        &mut t.ends,
+        &mut t.fans,
+        &mut t.links,
+        &mut t.sections,
+        &mut t.bounds,
+        &mut t.stations,
+        &mut t.places,
+        &mut t.cumulative,
+        &mut t.tangents,
+        &mut rows,
+        &mut metres,
+    );
+    let rows = &rows[..2 * a.positions];
+    let metres = &metres[..3 * a.positions];
+    text::advance_text(page, a.number, a.keys, rows, metres);
 }
 
-// The public call `beside`, over tables of its own.
-fn ask_beside(file: &[u8], lane: LaneId, s: f64, side: usize) -> BesideAnswer
-    ensures { result ≡ beside_of (decode side file.now) (centerline lane s) side }
+fn beside_reply<const N: usize>(
+    file: &[u8],
+    lane: LaneId,
+    s: f64,
+    side: usize,
+    page: &mut ArrayVec<u8, N>,
+)
+    requires { array_vec_len page.old + room ≤ N }
+    ensures { Adds (reply_to file.now (Beside lane s side)) room page.old page.new }
 {
-    let mut lanes = [0usize; 1536];
-    let mut points = [0f32; 12288];
-    let mut ends = [0f32; 1536];
-    let mut fans = [0usize; 1280];
-    let mut links = [0usize; 4096];
-    let mut sections = [0usize; 256];
-    let mut bounds = [0f64; 128];
-    let mut stations = [0f64; 4096];
-    let mut places = [0usize; 768];
-    let mut cumulative = [0f32; 4096];
-    let mut tangents = [0f32; 12288];
-    lanes::beside(
+    let mut t = Tables::new();
+    let a = lanes::beside(
         file,
         lane,
         s,
         side,
-        &mut lanes,
-        &mut points,
-        &mut ends,
-        &mut fans,
-        &mut links,
-        &mut sections,
-        &mut bounds,
-        &mut stations,
-        &mut places,
-        &mut cumulative,
-        &mut tangents,
-    )
-}
-
-fn route_reply(file: &[u8], x: f32, y: f32, z: f32, u: f32, v: f32, w: f32, out: &mut [u8]) -> usize
-    requires { room ≤ length out.old }
-    ensures { Puts (reply_to file.now (Route x y z u v w)) 0 out.old out.new result × (result ≤ room) }
-{
-    let mut chain = [0usize; 257];
-    let mut waypoints = [0f32; 12288];
-    let a = ask_route(file, x, y, z, u, v, w, &mut chain, &mut waypoints);
-    text::route_text(
-        a.number, a.lanes, a.points, a.length, &chain, &waypoints, out, 0,
-    )
-}
-
-fn advance_reply(
-    file: &[u8],
-    lane: LaneId,
-    s: f64,
-    offset: f64,
-    distance: f64,
-    out: &mut [u8],
-) -> usize
-    requires { room ≤ length out.old }
-    ensures { Puts (reply_to file.now (Advance lane s offset distance)) 0 out.old out.new result × (result ≤ room) }
-{
-    let mut rows = [0usize; 512];
-    let mut metres = [0f64; 768];
-    let a = ask_advance(file, lane, s, offset, distance, &mut rows, &mut metres);
-    text::advance_text(a.number, a.keys, a.positions, &rows, &metres, out, 0)
-}
-
-fn beside_reply(file: &[u8], lane: LaneId, s: f64, side: usize, out: &mut [u8]) -> usize
-    requires { room ≤ length out.old }
-    ensures { Puts (reply_to file.now (Beside lane s side)) 0 out.old out.new result × (result ≤ room) }
-{
-    let a = ask_beside(file, lane, s, side);
+        &mut t.lanes,
+        &mut t.points,
+        &mut t.ends,
+        &mut t.fans,
+        &mut t.links,
+        &mut t.sections,
+        &mut t.bounds,
+        &mut t.stations,
+        &mut t.places,
+        &mut t.cumulative,
+        &mut t.tangents,
+    );
     let at = a.at;
     let id = at.lane;
-    text::beside_text(a.number, id.0, at.s, at.offset, out, 0)
+    text::beside_text(page, a.number, id.0, at.s, at.offset);
 }
 
 // The reply to one query.
-fn reply(file: &[u8], q: Query, out: &mut [u8]) -> usize
-    requires { room ≤ length out.old }
-    ensures { Puts (reply_to file.now q) 0 out.old out.new result × (result ≤ room) }
+fn reply<const N: usize>(file: &[u8], q: Query, page: &mut ArrayVec<u8, N>)
+    requires { array_vec_len page.old + room ≤ N }
+    ensures { Adds (reply_to file.now q) room page.old page.new }
 {
     match q {
-        Query::Route(x, y, z, u, v, w) => route_reply(file, x, y, z, u, v, w, out),
+        Query::Route(x, y, z, u, v, w) => route_reply(file, x, y, z, u, v, w, page),
         Query::Advance(lane, s, offset, distance) => {
-            advance_reply(file, lane, s, offset, distance, out)
+            advance_reply(file, lane, s, offset, distance, page)
         }
-        Query::Beside(lane, s, side) => beside_reply(file, lane, s, side, out),
+        Query::Beside(lane, s, side) => beside_reply(file, lane, s, side, page),
     }
 }
 
-// The plan line. Queries follow where the file is a plan.
-pub fn first_piece(file: &[u8], out: &mut [u8]) -> Piece
-    requires { room ≤ length out.old }
-    ensures { Writes (first_part file.now) result out.old out.new }
+// Leaves the plan line on the page, and answers from which place in the file on queries follow, where it is a plan.
+pub fn first_piece<const N: usize>(file: &[u8], page: &mut ArrayVec<u8, N>) -> Option<usize>
+    requires { room ≤ N }
+    ensures { Writes (first_part file.now) result page.new }
 {
     let mut starts = RecordStarts::new();
     // the row of each lane number
     let mut index = [0u16; 65536];
     let r = Read::from(plan::check(file, 0, &mut starts, &mut index));
     let c = r.counts;
-    let len = text::plan_text(r.number, c.lanes, c.links, out, 0);
-    Piece {
-        len,
-        more: r.number == 0,
-        next: 0,
-    }
+    page.clear();
+    text::plan_text(page, r.number, c.lanes, c.links);
+    if r.number == 0 { Some(0) } else { None }
 }
 
-// The reply to the first query from `at` on; nothing where there is none.
-pub fn next_piece(file: &[u8], at: usize, out: &mut [u8]) -> Piece
-    requires { room ≤ length out.old }
-    ensures { Writes (next_part file.now at) result out.old out.new }
+// Leaves the reply to the first query from `at` on, and answers from which place on more may follow; nothing where there is none.
+pub fn next_piece<const N: usize>(
+    file: &[u8],
+    at: usize,
+    page: &mut ArrayVec<u8, N>,
+) -> Option<usize>
+    requires { room ≤ N }
+    ensures { Writes (next_part file.now at) result page.new }
 {
+    page.clear();
     match next_query(file, at) {
-        Some((q, next)) => Piece {
-            len: reply(file, q, out),
-            more: true,
-            next,
-        },
-        None => Piece {
-            len: 0,
-            more: false,
-            next: at,
-        },
+        Some((q, next)) => {
+            reply(file, q, page);
+            Some(next)
+        }
+        None => None,
     }
 }

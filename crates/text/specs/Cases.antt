@@ -41,6 +41,6 @@ two_positions :
     ≡ bytes "advance 0 1 2\n"
     ++ bytes "at 2 4021000000000000 7FF8000000000000\n"
     ++ bytes "end 300 4030000000000000 8000000000000000 4018000000000000\n"
-unfolding bytes advance_text advance_line position_lines position_line at_line end_line newline number_field double_field decimal_of digits_of digit_count
-    digit_count_by double_of hex_of to_bits of_bits
+unfolding bytes advance_text advance_line position_lines position_line at_line end_line newline number_field double_field decimal_of digits_of
+    digit_count digit_count_by double_of hex_of to_bits of_bits
 two_positions = refl

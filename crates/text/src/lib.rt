@@ -1,324 +1,288 @@
-// The printed form of answers (document 01, "Program plan-run"): each function writes bytes into a lent buffer and answers where the next go.
+// The printed form of answers (document 01, "Program plan-run"): each function adds bytes to a page, which has room for them.
 // `specs/Lines.antt` says what a line has.
 #![tactic(auto)]
 
-ghost use Rattle.std.specs.Prelude.{◌≡◌, ◌+◌, ◌*◌, ◌<◌, ◌≤◌, length};
-ghost use Rattle.text.specs.Put.{Puts};
-ghost use Rattle.text.specs.Numerals.{digit_count, digits_of, hex_digit, hex_of};
+ghost use Rattle.std.specs.Prelude.{◌≡◌, ◌+◌, ◌*◌, ◌/◌, ◌<◌, ◌≤◌, length};
+ghost use Rattle.arrayvec.specs.ArrayVec.{array_vec_len};
+ghost use Rattle.text.specs.Page.{Adds};
+ghost use Rattle.text.specs.Numerals.{hex_digit, hex_of};
 ghost use Rattle.text.specs.Lines.{number_field, single_field, double_field, newline};
 ghost use Rattle.text.specs.Lines.{plan_line, route_line, lane_line, point_line, advance_line, at_line, end_line, beside_line};
 ghost use Rattle.text.specs.Lines.{lane_lines, point_lines, position_line, position_lines, route_text, advance_text, beside_text};
 
-// How many decimal digits n has.
-fn digit_count(n: usize) -> usize
-    ensures { (result ≡ digit_count n) × (result ≤ 20) }
+use arrayvec::ArrayVec;
+
+fn word<const N: usize>(page: &mut ArrayVec<u8, N>, bytes: &[u8])
+    requires { array_vec_len page.old + length bytes.now ≤ N }
+    ensures { Adds bytes.now (length bytes.now) page.old page.new }
 {
-    let mut k = 1;
-    let mut rest = n;
-    while 10 <= rest {
-        rest = rest / 10;
-        k += 1;
-    }
-    k
+    let _fits = page.try_extend_from_slice(bytes);
 }
 
-// The last k decimal digits of n.
-fn spell(n: usize, k: usize, out: &mut [u8], at: usize) -> usize
-    requires { at + k ≤ length out.old }
-    ensures { Puts (digits_of k n) at out.old out.new result }
+#[tactic(auto, unfolding(crate::specs::Lines::newline))]
+fn line_feed<const N: usize>(page: &mut ArrayVec<u8, N>)
+    requires { array_vec_len page.old < N }
+    ensures { Adds newline 1 page.old page.new }
 {
-    let mut i = k;
-    let mut rest = n;
-    while 0 < i {
-        i -= 1;
-        out[at + i] = (48 + rest % 10) as u8;
-        rest = rest / 10;
-    }
-    at + k
+    page.push(b'\n');
 }
 
-fn hex_digit(d: u64) -> u8
+fn hex_digit(d: u8) -> u8
     requires { d < 16 }
     ensures { result ≡ hex_digit d }
 {
-    if d < 10 { d as u8 + 48 } else { d as u8 + 55 }
+    if d < 10 { b'0' + d } else { b'A' + (d - 10) }
 }
 
-// The last eight hexadecimal digits of n.
-fn hex(n: u64, out: &mut [u8], at: usize) -> usize
-    requires { at + 8 ≤ length out.old }
-    ensures { Puts (hex_of 8 n) at out.old out.new result × (result ≡ at + 8) }
+// The last k hexadecimal digits of n.
+fn hex<const N: usize>(page: &mut ArrayVec<u8, N>, n: u64, k: u32)
+    requires { (array_vec_len page.old + k ≤ N) × (k ≤ 16) }
+    ensures { Adds (hex_of k n) k page.old page.new }
 {
-    out[at] = hex_digit(n / 0x10000000 % 16);
-    out[at + 1] = hex_digit(n / 0x1000000 % 16);
-    out[at + 2] = hex_digit(n / 0x100000 % 16);
-    out[at + 3] = hex_digit(n / 0x10000 % 16);
-    out[at + 4] = hex_digit(n / 0x1000 % 16);
-    out[at + 5] = hex_digit(n / 0x100 % 16);
-    out[at + 6] = hex_digit(n / 0x10 % 16);
-    out[at + 7] = hex_digit(n % 16);
-    at + 8
-}
-
-// The bytes of `word`.
-fn put(word: &[u8], out: &mut [u8], at: usize) -> usize
-    requires { at + length word.now ≤ length out.old }
-    ensures { Puts word.now at out.old out.new result × (result ≡ at + length word.now) }
-{
-    let mut i = 0;
-    while i < word.len() {
-        out[at + i] = word[i];
-        i += 1;
+    for i in (0..k).rev() {
+        page.push(hex_digit(((n >> (4 * i)) % 16) as u8));
     }
-    at + word.len()
-}
-
-fn line_feed(out: &mut [u8], at: usize) -> usize
-    requires { at < length out.old }
-    ensures { Puts newline at out.old out.new result × (result ≡ at + 1) }
-{
-    out[at] = b'\n';
-    at + 1
 }
 
 // A space and n in decimal.
-fn number_field(n: usize, out: &mut [u8], at: usize) -> usize
-    requires { at + 21 ≤ length out.old }
-    ensures { Puts (number_field n) at out.old out.new result × (result ≤ at + 21) }
+fn number_field<const N: usize>(page: &mut ArrayVec<u8, N>, n: usize)
+    requires { array_vec_len page.old + 21 ≤ N }
+    ensures { Adds (number_field n) 21 page.old page.new }
 {
-    out[at] = b' ';
-    spell(n, digit_count(n), out, at + 1)
+    page.push(b' ');
+    let mut digits = itoa::Buffer::new();
+    word(page, digits.format(n).as_bytes());
 }
 
 // A space and the bits of x.
-fn single_field(x: f32, out: &mut [u8], at: usize) -> usize
-    requires { at + 9 ≤ length out.old }
-    ensures { Puts (single_field x) at out.old out.new result × (result ≤ at + 9) }
+#[tactic(auto, unfolding(crate::specs::Lines::single_field, crate::specs::Numerals::single_of))]
+fn single_field<const N: usize>(page: &mut ArrayVec<u8, N>, x: f32)
+    requires { array_vec_len page.old + 9 ≤ N }
+    ensures { Adds (single_field x) 9 page.old page.new }
 {
-    out[at] = b' ';
-    hex(float::to_bits(x) as u64, out, at + 1)
+    page.push(b' ');
+    hex(page, float::to_bits(x) as u64, 8);
 }
 
-fn double_field(x: f64, out: &mut [u8], at: usize) -> usize
-    requires { at + 17 ≤ length out.old }
-    ensures { Puts (double_field x) at out.old out.new result × (result ≤ at + 17) }
+// Beside single_field: crate float gives the bits of each type by a function of its own, so that one generic function would need a trait.
+#[tactic(auto, unfolding(crate::specs::Lines::double_field, crate::specs::Numerals::double_of))]
+fn double_field<const N: usize>(page: &mut ArrayVec<u8, N>, x: f64)
+    requires { array_vec_len page.old + 17 ≤ N }
+    ensures { Adds (double_field x) 17 page.old page.new }
 {
-    out[at] = b' ';
-    let bits = float::to_bits(x);
-    let half = hex(bits / 0x1_0000_0000, out, at + 1);
-    hex(bits % 0x1_0000_0000, out, half)
+    page.push(b' ');
+    hex(page, float::to_bits(x), 16);
 }
 
 // The plan line.
-pub fn plan_text(number: usize, lanes: usize, links: usize, out: &mut [u8], at: usize) -> usize
-    requires { at + 68 ≤ length out.old }
-    ensures { Puts (plan_line number lanes links) at out.old out.new result × (result ≤ at + 68) }
+#[tactic(auto, unfolding(crate::specs::Bytes::bytes, crate::specs::Lines::plan_line))]
+pub fn plan_text<const N: usize>(
+    page: &mut ArrayVec<u8, N>,
+    number: usize,
+    lanes: usize,
+    links: usize,
+)
+    requires { array_vec_len page.old + 68 ≤ N }
+    ensures { Adds (plan_line number lanes links) 68 page.old page.new }
 {
-    let a = put(b"plan", out, at);
-    let b = number_field(number, out, a);
-    let c = number_field(lanes, out, b);
-    let d = number_field(links, out, c);
-    line_feed(out, d)
+    word(page, b"plan");
+    number_field(page, number);
+    number_field(page, lanes);
+    number_field(page, links);
+    line_feed(page);
 }
 
-fn route_line(
+#[tactic(auto, unfolding(crate::specs::Bytes::bytes, crate::specs::Lines::route_line))]
+fn route_line<const N: usize>(
+    page: &mut ArrayVec<u8, N>,
     number: usize,
     chain: usize,
     points: usize,
     len: f32,
-    out: &mut [u8],
-    at: usize,
-) -> usize
-    requires { at + 78 ≤ length out.old }
-    ensures { Puts (route_line number chain points len) at out.old out.new result × (result ≤ at + 78) }
+)
+    requires { array_vec_len page.old + 78 ≤ N }
+    ensures { Adds (route_line number chain points len) 78 page.old page.new }
 {
-    let a = put(b"route", out, at);
-    let b = number_field(number, out, a);
-    let c = number_field(chain, out, b);
-    let d = number_field(points, out, c);
-    let e = single_field(len, out, d);
-    line_feed(out, e)
+    word(page, b"route");
+    number_field(page, number);
+    number_field(page, chain);
+    number_field(page, points);
+    single_field(page, len);
+    line_feed(page);
 }
 
-fn lane_line(n: usize, out: &mut [u8], at: usize) -> usize
-    requires { at + 26 ≤ length out.old }
-    ensures { Puts (lane_line n) at out.old out.new result × (result ≤ at + 26) }
+#[tactic(auto, unfolding(crate::specs::Bytes::bytes, crate::specs::Lines::lane_line))]
+fn lane_line<const N: usize>(page: &mut ArrayVec<u8, N>, n: usize)
+    requires { array_vec_len page.old + 26 ≤ N }
+    ensures { Adds (lane_line n) 26 page.old page.new }
 {
-    let a = put(b"lane", out, at);
-    let b = number_field(n, out, a);
-    line_feed(out, b)
+    word(page, b"lane");
+    number_field(page, n);
+    line_feed(page);
 }
 
-fn point_line(x: f32, y: f32, z: f32, out: &mut [u8], at: usize) -> usize
-    requires { at + 33 ≤ length out.old }
-    ensures { Puts (point_line x y z) at out.old out.new result × (result ≤ at + 33) }
+#[tactic(auto, unfolding(crate::specs::Bytes::bytes, crate::specs::Lines::point_line))]
+fn point_line<const N: usize>(page: &mut ArrayVec<u8, N>, x: f32, y: f32, z: f32)
+    requires { array_vec_len page.old + 33 ≤ N }
+    ensures { Adds (point_line x y z) 33 page.old page.new }
 {
-    let a = put(b"point", out, at);
-    let b = single_field(x, out, a);
-    let c = single_field(y, out, b);
-    let d = single_field(z, out, c);
-    line_feed(out, d)
+    word(page, b"point");
+    single_field(page, x);
+    single_field(page, y);
+    single_field(page, z);
+    line_feed(page);
 }
 
-fn advance_line(number: usize, keys: usize, positions: usize, out: &mut [u8], at: usize) -> usize
-    requires { at + 71 ≤ length out.old }
-    ensures { Puts (advance_line number keys positions) at out.old out.new result × (result ≤ at + 71) }
+#[tactic(auto, unfolding(crate::specs::Bytes::bytes, crate::specs::Lines::advance_line))]
+fn advance_line<const N: usize>(
+    page: &mut ArrayVec<u8, N>,
+    number: usize,
+    keys: usize,
+    positions: usize,
+)
+    requires { array_vec_len page.old + 71 ≤ N }
+    ensures { Adds (advance_line number keys positions) 71 page.old page.new }
 {
-    let a = put(b"advance", out, at);
-    let b = number_field(number, out, a);
-    let c = number_field(keys, out, b);
-    let d = number_field(positions, out, c);
-    line_feed(out, d)
+    word(page, b"advance");
+    number_field(page, number);
+    number_field(page, keys);
+    number_field(page, positions);
+    line_feed(page);
 }
 
-fn at_line(n: usize, s: f64, offset: f64, out: &mut [u8], at: usize) -> usize
-    requires { at + 58 ≤ length out.old }
-    ensures { Puts (at_line n s offset) at out.old out.new result × (result ≤ at + 58) }
+#[tactic(auto, unfolding(crate::specs::Bytes::bytes, crate::specs::Lines::at_line))]
+fn at_line<const N: usize>(page: &mut ArrayVec<u8, N>, n: usize, s: f64, offset: f64)
+    requires { array_vec_len page.old + 58 ≤ N }
+    ensures { Adds (at_line n s offset) 58 page.old page.new }
 {
-    let a = put(b"at", out, at);
-    let b = number_field(n, out, a);
-    let c = double_field(s, out, b);
-    let d = double_field(offset, out, c);
-    line_feed(out, d)
+    word(page, b"at");
+    number_field(page, n);
+    double_field(page, s);
+    double_field(page, offset);
+    line_feed(page);
 }
 
-fn end_line(n: usize, s: f64, offset: f64, short: f64, out: &mut [u8], at: usize) -> usize
-    requires { at + 76 ≤ length out.old }
-    ensures { Puts (end_line n s offset short) at out.old out.new result × (result ≤ at + 76) }
+#[tactic(auto, unfolding(crate::specs::Bytes::bytes, crate::specs::Lines::end_line))]
+fn end_line<const N: usize>(page: &mut ArrayVec<u8, N>, n: usize, s: f64, offset: f64, short: f64)
+    requires { array_vec_len page.old + 76 ≤ N }
+    ensures { Adds (end_line n s offset short) 76 page.old page.new }
 {
-    let a = put(b"end", out, at);
-    let b = number_field(n, out, a);
-    let c = double_field(s, out, b);
-    let d = double_field(offset, out, c);
-    let e = double_field(short, out, d);
-    line_feed(out, e)
+    word(page, b"end");
+    number_field(page, n);
+    double_field(page, s);
+    double_field(page, offset);
+    double_field(page, short);
+    line_feed(page);
 }
 
-fn beside_line(number: usize, out: &mut [u8], at: usize) -> usize
-    requires { at + 28 ≤ length out.old }
-    ensures { Puts (beside_line number) at out.old out.new result × (result ≤ at + 28) }
+#[tactic(auto, unfolding(crate::specs::Bytes::bytes, crate::specs::Lines::beside_line))]
+fn beside_line<const N: usize>(page: &mut ArrayVec<u8, N>, number: usize)
+    requires { array_vec_len page.old + 28 ≤ N }
+    ensures { Adds (beside_line number) 28 page.old page.new }
 {
-    let a = put(b"beside", out, at);
-    let b = number_field(number, out, a);
-    line_feed(out, b)
+    word(page, b"beside");
+    number_field(page, number);
+    line_feed(page);
 }
 
-// The first k lanes of a chain.
-fn lane_lines(ns: &[usize], k: usize, out: &mut [u8], at: usize) -> usize
-    requires { (k ≤ length ns.now) × (at + 26 * k ≤ length out.old) }
-    ensures { Puts (lane_lines ns.now k) at out.old out.new result × (result ≤ at + 26 * k) }
+fn lane_lines<const N: usize>(page: &mut ArrayVec<u8, N>, ns: &[usize])
+    requires { array_vec_len page.old + 26 * length ns.now ≤ N }
+    ensures { Adds (lane_lines ns.now (length ns.now)) (26 * length ns.now) page.old page.new }
 {
-    let mut i = 0;
-    let mut next = at;
-    while i < k {
-        next = lane_line(ns[i], out, next);
-        i += 1;
+    for n in ns {
+        lane_line(page, *n);
     }
-    next
 }
 
-// The first k points, x y z each.
-fn point_lines(xs: &[f32], k: usize, out: &mut [u8], at: usize) -> usize
-    requires { (3 * k ≤ length xs.now) × (at + 33 * k ≤ length out.old) }
-    ensures { Puts (point_lines xs.now k) at out.old out.new result × (result ≤ at + 33 * k) }
+// Points of x, y and z.
+fn point_lines<const N: usize>(page: &mut ArrayVec<u8, N>, xs: &[f32])
+    requires { array_vec_len page.old + 33 * (length xs.now / 3) ≤ N }
+    ensures { Adds (point_lines xs.now (length xs.now / 3)) (33 * (length xs.now / 3)) page.old page.new }
 {
-    let mut i = 0;
-    let mut next = at;
-    while i < k {
-        let j = 3 * i;
-        next = point_line(xs[j], xs[j + 1], xs[j + 2], out, next);
-        i += 1;
+    let (points, _) = xs.as_chunks::<3>();
+    for [x, y, z] in points {
+        point_line(page, *x, *y, *z);
     }
-    next
 }
 
-fn position_line(
+#[tactic(auto, unfolding(crate::specs::Lines::position_line))]
+fn position_line<const N: usize>(
+    page: &mut ArrayVec<u8, N>,
     case: usize,
     n: usize,
     s: f64,
     offset: f64,
     short: f64,
-    out: &mut [u8],
-    at: usize,
-) -> usize
-    requires { at + 76 ≤ length out.old }
-    ensures { Puts (position_line case n s offset short) at out.old out.new result × (result ≤ at + 76) }
+)
+    requires { array_vec_len page.old + 76 ≤ N }
+    ensures { Adds (position_line case n s offset short) 76 page.old page.new }
 {
     if case == 0 {
-        return at_line(n, s, offset, out, at);
+        at_line(page, n, s, offset);
+    } else {
+        end_line(page, n, s, offset, short);
     }
-    end_line(n, s, offset, short, out, at)
 }
 
-// The first k positions: case and lane; s, offset and metres short.
-fn position_lines(rows: &[usize], metres: &[f64], k: usize, out: &mut [u8], at: usize) -> usize
-    requires { (2 * k ≤ length rows.now) × (3 * k ≤ length metres.now) × (at + 76 * k ≤ length out.old) }
-    ensures { Puts (position_lines rows.now metres.now k) at out.old out.new result
-        × (result ≤ at + 76 * k) }
+// Positions of case and lane; s, offset and metres short.
+fn position_lines<const N: usize>(page: &mut ArrayVec<u8, N>, rows: &[usize], metres: &[f64])
+    requires { (length rows.now / 2 ≡ length metres.now / 3) × (array_vec_len page.old + 76 * (length rows.now / 2) ≤ N) }
+    ensures { Adds (position_lines rows.now metres.now (length rows.now / 2)) (76 * (length rows.now / 2)) page.old page.new }
 {
-    let mut i = 0;
-    let mut next = at;
-    while i < k {
-        let j = 2 * i;
-        let m = 3 * i;
-        next = position_line(
-            rows[j],
-            rows[j + 1],
-            metres[m],
-            metres[m + 1],
-            metres[m + 2],
-            out,
-            next,
-        );
-        i += 1;
+    let (rows, _) = rows.as_chunks::<2>();
+    let (metres, _) = metres.as_chunks::<3>();
+    for ([case, n], [s, offset, short]) in rows.iter().zip(metres) {
+        position_line(page, *case, *n, *s, *offset, *short);
     }
-    next
 }
 
 // A route's answer: its line, the lanes of its chain, its points.
-pub fn route_text(
+#[tactic(auto, unfolding(crate::specs::Lines::route_text))]
+pub fn route_text<const N: usize>(
+    page: &mut ArrayVec<u8, N>,
     number: usize,
-    chain: usize,
-    points: usize,
     len: f32,
     ns: &[usize],
     xs: &[f32],
-    out: &mut [u8],
-    at: usize,
-) -> usize
-    requires { (chain ≤ length ns.now) × (3 * points ≤ length xs.now) × (at + 78 + 26 * chain + 33 * points ≤ length out.old) }
-    ensures { Puts (route_text number chain points len ns.now xs.now) at out.old out.new result
-        × (result ≤ at + 78 + 26 * chain + 33 * points) }
+)
+    requires { array_vec_len page.old + 78 + 26 * length ns.now + 33 * (length xs.now / 3) ≤ N }
+    ensures { Adds (route_text number (length ns.now) (length xs.now / 3) len ns.now xs.now)
+        (78 + 26 * length ns.now + 33 * (length xs.now / 3)) page.old page.new }
 {
-    let a = route_line(number, chain, points, len, out, at);
-    let b = lane_lines(ns, chain, out, a);
-    point_lines(xs, points, out, b)
+    route_line(page, number, ns.len(), xs.len() / 3, len);
+    lane_lines(page, ns);
+    point_lines(page, xs);
 }
 
 // An advance's answer: its line and its positions.
-pub fn advance_text(
+#[tactic(auto, unfolding(crate::specs::Lines::advance_text))]
+pub fn advance_text<const N: usize>(
+    page: &mut ArrayVec<u8, N>,
     number: usize,
     keys: usize,
-    positions: usize,
     rows: &[usize],
     metres: &[f64],
-    out: &mut [u8],
-    at: usize,
-) -> usize
-    requires { (2 * positions ≤ length rows.now) × (3 * positions ≤ length metres.now)
-        × (at + 71 + 76 * positions ≤ length out.old) }
-    ensures { Puts (advance_text number keys positions rows.now metres.now) at out.old out.new result
-        × (result ≤ at + 71 + 76 * positions) }
+)
+    requires { (length rows.now / 2 ≡ length metres.now / 3) × (array_vec_len page.old + 71 + 76 * (length rows.now / 2) ≤ N) }
+    ensures { Adds (advance_text number keys (length rows.now / 2) rows.now metres.now)
+        (71 + 76 * (length rows.now / 2)) page.old page.new }
 {
-    let a = advance_line(number, keys, positions, out, at);
-    position_lines(rows, metres, positions, out, a)
+    advance_line(page, number, keys, rows.len() / 2);
+    position_lines(page, rows, metres);
 }
 
 // A beside's answer: its line and the position.
-pub fn beside_text(number: usize, n: usize, s: f64, offset: f64, out: &mut [u8], at: usize) -> usize
-    requires { at + 86 ≤ length out.old }
-    ensures { Puts (beside_text number n s offset) at out.old out.new result × (result ≤ at + 86) }
+#[tactic(auto, unfolding(crate::specs::Lines::beside_text))]
+pub fn beside_text<const N: usize>(
+    page: &mut ArrayVec<u8, N>,
+    number: usize,
+    n: usize,
+    s: f64,
+    offset: f64,
+)
+    requires { array_vec_len page.old + 86 ≤ N }
+    ensures { Adds (beside_text number n s offset) 86 page.old page.new }
 {
-    let a = beside_line(number, out, at);
-    at_line(n, s, offset, out, a)
+    beside_line(page, number);
+    at_line(page, n, s, offset);
 }

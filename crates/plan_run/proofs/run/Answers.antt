@@ -1,24 +1,28 @@
-use Rattle.std.proofs.Common.{refl, ◌∙◌}
-use Rattle.replies.specs.Ending.{first_start, next_less, written_room}
-use Rattle.plan_run.proofs.Text.{begun, further}
+-- Each turn adds its piece to what is written.
+use Rattle.std.proofs.Common.{Option, ℕ, ◌<◌, length, subst, sym}
+use Rattle.replies.specs.Ending.{first_start, next_less, to_come}
+use Rattle.plan_run.proofs.Text.{begun, finished, further}
 use Rattle.plan_run.proofs.run.Goals as goal
 
-pub loop-piece-init : goal.loop-piece-init
-loop-piece-init g c =
-    let W = c.first_piece-piece.ensures in
-    ((written_room W c.requires).1, refl, first_start c.args.file.now W, begun c.args.file.now c.requires W c.in_ok-write_all.ensures.bytes)
+pub loop-next-init : goal.loop-next-init
+loop-next-init g c =
+    let W = c.first_piece-next.ensures in
+    (first_start c.args.file.now W, begun c.args.file.now W c.as_slice.ensures.value c.in_ok-write_all.ensures.bytes)
 
-pub loop-piece-smaller : goal.loop-piece-smaller
-loop-piece-smaller g c =
-    (next_less c.args.file.now c.loop-piece.piece.next c.loop-piece.piece.more c.next_piece-piece.ensures c.loop-piece-test.true c.loop-piece.invariant.2).1
+pub loop-next-smaller : goal.loop-next-smaller
+loop-next-smaller g c =
+    let n = length c.args.file.now in
+    let so_far = rw c.in-Some.is at c.loop-next.invariant in
+    subst (λ (r : Option ℕ). to_come n c.next_piece-next.result < to_come n r) (sym c.in-Some.is)
+    (next_less c.args.file.now c.in-Some.at c.next_piece-next.ensures so_far.0).1
 
-pub loop-piece-preserved : goal.loop-piece-preserved
-loop-piece-preserved g c =
-    let l = c.loop-piece in
-    let W = c.next_piece-piece.ensures in
-    let R = written_room W l.invariant.0 in (
-      R.1,
-      R.0 ∙ l.invariant.1,
-      (next_less c.args.file.now l.piece.next l.piece.more W c.loop-piece-test.true l.invariant.2).0,
-      further c.args.file.now l.invariant.0 l.invariant.3 c.loop-piece-test.true W c.in_ok-write_all-2.ensures.bytes,
+pub loop-next-preserved : goal.loop-next-preserved
+loop-next-preserved g c =
+    let W = c.next_piece-next.ensures in
+    let so_far = rw c.in-Some.is at c.loop-next.invariant in (
+      (next_less c.args.file.now c.in-Some.at W so_far.0).0,
+      further c.args.file.now so_far.1 W c.as_slice-in-Some.ensures.value c.in_ok-write_all-2.ensures.bytes,
     )
+
+pub returns : goal.returns
+returns g c = let so_far = rw c.in_default.is at c.loop-next.invariant in finished so_far.1

@@ -1,17 +1,53 @@
 -- The counts of the answer are within the lists; the answer written out is the reply.
-use borrow.Author.Rules.{rules}
+use Rattle.std.proofs.Common.{sym, length-take-le, arith}
+use Rattle.replies.specs.Lent.{from_lent}
 use Rattle.replies.specs.Replied.{advance_replied, advance_room}
 use Rattle.replies.proofs.advance_reply.Goals as goal
 
-pub advance_text-requires : goal.advance_text-requires
-advance_text-requires c =
-    let a = c.args in
-    let asked = c.ask_advance-a in
-    advance_room a.file.now a.lane a.s a.offset a.distance asked.result _ _ asked.ensures _ c.requires
+pub overflow_mul-rows : goal.overflow_mul-rows
+overflow_mul-rows g c =
+    let R =
+    advance_room c.args.file.now c.args.lane c.args.s c.args.offset c.args.distance c.advance-a.result
+    _ _ (from_lent c.new-t.ensures c.advance-a.ensures) in
+    omega arith
+
+pub slice_bounds-rows-end : goal.slice_bounds-rows-end
+slice_bounds-rows-end g c =
+    let R =
+    advance_room c.args.file.now c.args.lane c.args.s c.args.offset c.args.distance c.advance-a.result
+    _ _ (from_lent c.new-t.ensures c.advance-a.ensures) in
+    R.0
+
+pub slice_bounds-rows-end-2 : goal.slice_bounds-rows-end-2
+slice_bounds-rows-end-2 g c =
+    let R =
+    advance_room c.args.file.now c.args.lane c.args.s c.args.offset c.args.distance c.advance-a.result
+    _ _ (from_lent c.new-t.ensures c.advance-a.ensures) in
+    sym (length-take-le _ _ R.0)
+
+pub overflow_mul-metres : goal.overflow_mul-metres
+overflow_mul-metres g c =
+    let R =
+    advance_room c.args.file.now c.args.lane c.args.s c.args.offset c.args.distance c.advance-a.result
+    _ _ (from_lent c.new-t.ensures c.advance-a.ensures) in
+    omega arith
+
+pub slice_bounds-metres-end : goal.slice_bounds-metres-end
+slice_bounds-metres-end g c =
+    let R =
+    advance_room c.args.file.now c.args.lane c.args.s c.args.offset c.args.distance c.advance-a.result
+    _ _ (from_lent c.new-t.ensures c.advance-a.ensures) in
+    R.1
+
+pub slice_bounds-metres-end-2 : goal.slice_bounds-metres-end-2
+slice_bounds-metres-end-2 g c =
+    let R =
+    advance_room c.args.file.now c.args.lane c.args.s c.args.offset c.args.distance c.advance-a.result
+    _ _ (from_lent c.new-t.ensures c.advance-a.ensures) in
+    sym (length-take-le _ _ R.1)
 
 pub returns : goal.returns
-returns c =
-    let a = c.args in
-    let asked = c.ask_advance-a in
-    advance_replied a.file.now a.lane a.s a.offset a.distance asked.result _ _ asked.ensures
+returns g c =
+    advance_replied c.args.file.now c.args.lane c.args.s c.args.offset c.args.distance c.advance-a.result
+    _ _ (from_lent c.new-t.ensures c.advance-a.ensures)
     c.advance_text.ensures

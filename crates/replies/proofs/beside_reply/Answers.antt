@@ -1,10 +1,9 @@
 -- The answer written out is the reply.
-use borrow.Author.Rules.{rules}
+use Rattle.replies.specs.Lent.{from_lent}
 use Rattle.replies.specs.Replied.{beside_replied}
 use Rattle.replies.proofs.beside_reply.Goals as goal
 
 pub returns : goal.returns
-returns c =
+returns g c =
     let a = c.args in
-    let asked = c.ask_beside-a in
-    beside_replied a.file.now a.lane a.s a.side asked.result asked.ensures c.beside_text.ensures
+    beside_replied a.file.now a.lane a.s a.side c.beside-a.result (from_lent c.new-t.ensures c.beside-a.ensures) c.beside_text.ensures

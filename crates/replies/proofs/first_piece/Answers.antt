@@ -1,12 +1,17 @@
 -- The number 0 tells a plan; a refused file has no counts.
-use native.Mathlib.Omega.{arith}
+use Rattle.std.proofs.Common.{arith}
 use Rattle.plan_format.specs.Laws.{Bytes}
-use Rattle.replies.specs.Written.{first_written}
+use Rattle.replies.specs.Written.{first_plan, first_refused}
 use Rattle.replies.proofs.first_piece.Goals as goal
 
-pub returns : goal.returns
-returns c =
-    let a = c.args in
+pub returns-then-r-eq0 : goal.returns-then-r-eq0
+returns-then-r-eq0 g c =
+    let bytes : Bytes c.args.file.now = (λ i. omega (arith, c.type_inv.file i)) in
     let check = rw (← c.from-r.ensures) at c.check.ensures.read in
-    let bytes : Bytes a.file.now = (λ i. omega (arith, c.type_inv.file i)) in
-    first_written a.file.now bytes c.from-r.result check c.plan_text-len.ensures
+    first_plan c.args.file.now bytes c.from-r.result check c.clear.ensures c.plan_text.ensures c.if-r-eq0.true
+
+pub returns-else-r-eq0 : goal.returns-else-r-eq0
+returns-else-r-eq0 g c =
+    let bytes : Bytes c.args.file.now = (λ i. omega (arith, c.type_inv.file i)) in
+    let check = rw (← c.from-r.ensures) at c.check.ensures.read in
+    first_refused c.args.file.now bytes c.from-r.result check c.clear.ensures c.plan_text.ensures c.if-r-eq0.false

@@ -1,15 +1,8 @@
 -- After i turns the first i lines stand there.
-use Prim.Native.Nat.{◌+◌, ◌*◌, ◌-◌, ◌≤◌}
-use lib.ListN.{length}
-use mathlib.Core.Path.{◌≡◌, ◌∙◌, refl}
-use native.Mathlib.Numerals.{add-one}
-use native.Mathlib.Omega.{arith}
+use Rattle.std.proofs.Common.{◌*◌}
 use Rattle.text.specs.Lines.{lane_lines}
-use Rattle.text.specs.Put.{Puts, puts_length, puts_none, puts_then}
+use Rattle.text.specs.Page.{Adds}
 use Rattle.text.proofs.lane_lines.Given as goal
 
-abbrev pub invariant-loop-i : goal.invariant-loop-i
-invariant-loop-i l = (l.i ≤ l.k) × (length l.out ≡ length l.initial.out) × (l.next ≤ l.at + 26 * l.i) × Puts (lane_lines l.ns l.i) l.at l.initial.out l.out l.next
-
-abbrev pub decreases-loop-i : goal.decreases-loop-i
-decreases-loop-i l = l.k - l.i
+abbrev pub invariant-loop-n : goal.invariant-loop-n
+invariant-loop-n g l = Adds (lane_lines l.ns l.n-index) (26 * l.n-index) l.initial.page l.page

@@ -1,25 +1,16 @@
 -- A space, then the digits.
-use borrow.Author.Rules.{rules}
-use lib.ListN.{length-set}
-use mathlib.Core.Path.{◌∙◌}
-use native.Mathlib.Omega.{arith}
-use Rattle.text.specs.Counting.{length_digits}
+use Rattle.std.proofs.Common.{◌≤◌, length, arith, sym, ◌∙◌}
+use Rattle.std.proofs.lemmas.Fmt.{length-decimal-le}
+use Rattle.text.specs.Decimal.{decimal_is}
 use Rattle.text.specs.Lines.{number_field}
 use Rattle.text.specs.Numerals.{decimal_of}
-use Rattle.text.specs.Put.{puts_length, puts_one, puts_then}
+use Rattle.text.specs.Page.{adds_as, adds_byte, adds_then}
 use Rattle.text.proofs.number_field.Goals as goal
 
-pub spell-requires : goal.spell-requires
-spell-requires c = simp length-set (omega arith)
-
-pub shape_of-out : goal.shape_of-out
-shape_of-out c = puts_length c.spell.ensures ∙ simp length-set
-
 pub returns : goal.returns
-unfolding number_field decimal_of
-returns c =
-    let a = c.args in
-    let counted = c.digit_count.ensures in
-    let spelt = c.spell.ensures in
-    let long = length_digits c.digit_count.result a.n in
-    (puts_then (puts_one a.out.now a.at 32) (rw counted.0 at spelt), omega arith)
+unfolding number_field
+returns g c =
+    let n = c.args.n in
+    let e = decimal_is n (omega arith) in
+    let short : length (decimal_of n) ≤ 20 = rw e (length-decimal-le 20 n (omega arith) (omega arith) (omega arith)) in
+    adds_then (adds_byte c.push.ensures.items) (adds_as (c.as_bytes.ensures.value ∙ c.format.ensures.text ∙ sym e) short c.word.ensures)

@@ -1,88 +1,57 @@
 -- After i turns the first i lines stand there.
-use Prim.Native.Nat.{◌+◌, ◌*◌, ◌-◌, ◌≤◌}
-use lib.ListN.{length}
-use mathlib.Core.Path.{◌≡◌, ◌∙◌, refl}
-use native.Mathlib.Numerals.{add-one}
-use native.Mathlib.Omega.{arith}
+use Rattle.std.proofs.Common.{[], ◌∷◌, ◌≡◌, ◌+◌, ◌≤◌, ◌/◌, length, ap, ◌∙◌, arith, length-append, rules}
+use Rattle.std.proofs.lemmas.Slice.Zip.{zip_turn, zip_end}
+use Rattle.text.specs.Each.{position_lines_more}
 use Rattle.text.specs.Lines.{position_lines}
-use Rattle.text.specs.Put.{Puts, puts_length, puts_none, puts_then}
+use Rattle.text.specs.Page.{adds_length, adds_more, adds_none}
 use Rattle.text.proofs.position_lines.Goals as goal
 
-pub loop-i-init : goal.loop-i-init
+pub loop-case-init : goal.loop-case-init
 unfolding position_lines
-loop-i-init c = (omega arith, refl, omega arith, puts_none c.args.out.now c.args.at)
+loop-case-init g c = adds_none c.args.page.now
 
-pub overflow_mul-j : goal.overflow_mul-j
-overflow_mul-j c = omega arith
+pub position_line-requires : goal.position_line-requires
+position_line-requires g c =
+    let z = c.zip-case-items.ensures in
+    let begun = c.into_iter-case-iterator.ensures.into_iter_gives in
+    let rows = ap (λ s. s.a.rest.now) begun ∙ ap (λ s. s.rest.now) z.first ∙ c.iter.ensures.rest in
+    let metres = ap (λ s. s.b.rest.now) begun ∙ z.second.0 in
+    let turn =
+    zip_turn _ _ _ c.into_iter-case-iterator.result c.loop-case.case-iterator c.next.new.self c.next.result rows metres
+    c.loop-case.yielded_by _ c.in-Some.is c.next.ensures.steps in
+    let many : length c.as_chunks.result.0.now ≡ length c.args.rows.now / 2 = c.as_chunks.ensures.front_len in
+    let so_far = adds_length c.loop-case.invariant in
+    let fits : length c.loop-case.page.items + 76 ≤ g.row.N = omega (arith, turn.0, c.loop-case.invariant.few, c.requires) in
+    (search rules, fits)
 
-pub overflow_mul-m : goal.overflow_mul-m
-overflow_mul-m c = omega arith
-
-pub offset_bounds-rows-j : goal.offset_bounds-rows-j
-offset_bounds-rows-j c = omega arith
-
-pub bounds-rows-j : goal.bounds-rows-j
-bounds-rows-j c = omega arith
-
-pub overflow_add-j : goal.overflow_add-j
-overflow_add-j c = omega arith
-
-pub offset_bounds-rows-j-in-loop-i : goal.offset_bounds-rows-j-in-loop-i
-offset_bounds-rows-j-in-loop-i c = omega arith
-
-pub bounds-rows-j-in-loop-i : goal.bounds-rows-j-in-loop-i
-bounds-rows-j-in-loop-i c = omega arith
-
-pub offset_bounds-metres-m : goal.offset_bounds-metres-m
-offset_bounds-metres-m c = omega arith
-
-pub bounds-metres-m : goal.bounds-metres-m
-bounds-metres-m c = omega arith
-
-pub overflow_add-m : goal.overflow_add-m
-overflow_add-m c = omega arith
-
-pub offset_bounds-metres-m-in-loop-i : goal.offset_bounds-metres-m-in-loop-i
-offset_bounds-metres-m-in-loop-i c = omega arith
-
-pub bounds-metres-m-in-loop-i : goal.bounds-metres-m-in-loop-i
-bounds-metres-m-in-loop-i c = omega arith
-
-pub overflow_add-m-in-loop-i : goal.overflow_add-m-in-loop-i
-overflow_add-m-in-loop-i c = omega arith
-
-pub offset_bounds-metres-m-in-loop-i-2 : goal.offset_bounds-metres-m-in-loop-i-2
-offset_bounds-metres-m-in-loop-i-2 c = omega arith
-
-pub bounds-metres-m-in-loop-i-2 : goal.bounds-metres-m-in-loop-i-2
-bounds-metres-m-in-loop-i-2 c = omega arith
-
-pub position_line-next-requires : goal.position_line-next-requires
-position_line-next-requires c = omega arith
-
-pub overflow_add-i : goal.overflow_add-i
-overflow_add-i c = omega arith
-
-pub loop-i-smaller : goal.loop-i-smaller
-loop-i-smaller c = omega arith
-
-pub loop-i-preserved : goal.loop-i-preserved
-unfolding position_lines
-loop-i-preserved c =
-    let l = c.loop-i in
-    let p = c.position_line-next.ensures.0 in (
-      omega arith,
-      puts_length p ∙ l.invariant.1,
-      omega (arith, c.position_line-next.ensures.1),
-      rw add-one (puts_then l.invariant.3 p),
-    )
-
-pub shape_of-out : goal.shape_of-out
-shape_of-out c = c.loop-i.invariant.1
+pub loop-case-preserved : goal.loop-case-preserved
+loop-case-preserved g c =
+    let z = c.zip-case-items.ensures in
+    let begun = c.into_iter-case-iterator.ensures.into_iter_gives in
+    let rows = ap (λ s. s.a.rest.now) begun ∙ ap (λ s. s.rest.now) z.first ∙ c.iter.ensures.rest in
+    let metres = ap (λ s. s.b.rest.now) begun ∙ z.second.0 in
+    let turn =
+    zip_turn _ _ _ c.into_iter-case-iterator.result c.loop-case.case-iterator c.next.new.self c.next.result rows metres
+    c.loop-case.yielded_by _ c.in-Some.is c.next.ensures.steps in
+    let many : length c.as_chunks.result.0.now ≡ length c.args.rows.now / 2 = c.as_chunks.ensures.front_len in
+    let metres_many : length c.as_chunks-2.result.0.now ≡ length c.args.metres.now / 3 = c.as_chunks-2.ensures.front_len in
+    let grown = length-append c.loop-case.yielded ((c.in-Some.field-0-0, c.in-Some.field-0-1) ∷ []) in
+    let e =
+    position_lines_more c.args.rows.now c.args.metres.now (length c.args.rows.now / 2) (length c.args.metres.now / 3) _ _
+    c.as_chunks.ensures.front c.as_chunks-2.ensures.front
+    (length c.loop-case.yielded) _ grown (omega (arith, turn.0)) (omega (arith, turn.1)) _ _ (turn.2 _) (turn.3 _) in
+    adds_more e (omega arith) c.loop-case.invariant c.position_line.ensures
 
 pub returns : goal.returns
-returns c =
-    let l = c.loop-i in
-    let a = c.args in
-    let e : l.i ≡ a.k = omega arith in
-    (rw (← e) l.invariant.3, omega arith)
+returns g c =
+    let z = c.zip-case-items.ensures in
+    let begun = c.into_iter-case-iterator.ensures.into_iter_gives in
+    let rows = ap (λ s. s.a.rest.now) begun ∙ ap (λ s. s.rest.now) z.first ∙ c.iter.ensures.rest in
+    let metres = ap (λ s. s.b.rest.now) begun ∙ z.second.0 in
+    let end =
+    zip_end _ _ _ c.into_iter-case-iterator.result c.loop-case.case-iterator c.next.new.self c.next.result rows metres
+    c.loop-case.yielded_by c.in-None.is c.next.ensures.steps in
+    let many : length c.as_chunks.result.0.now ≡ length c.args.rows.now / 2 = c.as_chunks.ensures.front_len in
+    let metres_many : length c.as_chunks-2.result.0.now ≡ length c.args.metres.now / 3 = c.as_chunks-2.ensures.front_len in
+    let all : length c.loop-case.yielded ≡ length c.args.rows.now / 2 = omega (arith, end, c.requires) in
+    rw all at c.loop-case.invariant

@@ -1,16 +1,8 @@
 -- After i turns the first i lines stand there.
-use Prim.Native.Nat.{◌+◌, ◌*◌, ◌-◌, ◌≤◌}
-use lib.ListN.{length}
-use mathlib.Core.Path.{◌≡◌, ◌∙◌, refl}
-use native.Mathlib.Numerals.{add-one}
-use native.Mathlib.Omega.{arith}
+use Rattle.std.proofs.Common.{◌*◌, length}
 use Rattle.text.specs.Lines.{position_lines}
-use Rattle.text.specs.Put.{Puts, puts_length, puts_none, puts_then}
+use Rattle.text.specs.Page.{Adds}
 use Rattle.text.proofs.position_lines.Given as goal
 
-abbrev pub invariant-loop-i : goal.invariant-loop-i
-invariant-loop-i l =
-    (l.i ≤ l.k) × (length l.out ≡ length l.initial.out) × (l.next ≤ l.at + 76 * l.i) × Puts (position_lines l.rows l.metres l.i) l.at l.initial.out l.out l.next
-
-abbrev pub decreases-loop-i : goal.decreases-loop-i
-decreases-loop-i l = l.k - l.i
+abbrev pub invariant-loop-case : goal.invariant-loop-case
+invariant-loop-case g l = Adds (position_lines l.rows l.metres (length l.yielded)) (76 * length l.yielded) l.initial.page l.page
