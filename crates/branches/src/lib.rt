@@ -2,7 +2,8 @@
 // what each function answers, `specs/Held.antt` how a `Front` holds branches and keys.
 #![tactic(auto)]
 
-ghost use Rattle.std.specs.Prelude.{◌≡◌, ◌+◌, ◌*◌, ◌<◌, ◌≤◌, Bool, false, ◌||◌, [], length, MatchOption};
+ghost use Rattle.std.specs.Prelude.{◌≡◌, ◌+◌, ◌*◌, ◌<◌, ◌≤◌, Bool, false, ◌||◌, [], length, reverse, MatchOption};
+ghost use Rattle.std.specs.List.{list_any};
 ghost use Rattle.arrayvec.specs.ArrayVec.{array_vec_len};
 ghost use Rattle.beside.specs.Sides.{direction_at};
 ghost use Rattle.geometry.specs.Partition.{Rising};
@@ -12,7 +13,7 @@ ghost use Rattle.rows.specs.Rows.{arcs_of, direction_of, end_point, lane_number,
 ghost use Rattle.branches.specs.Tables.{AllLaid, Tabled, led_to, tables};
 ghost use Rattle.branches.specs.Branches.{millimetres, side_of, room_of, exit_of, head_of, tail_of, away_from, at_end, is_next, up_on};
 ghost use Rattle.branches.specs.Branches.{branch_onto};
-ghost use Rattle.branches.specs.Branches.{key_of, link_end, link_count};
+ghost use Rattle.branches.specs.Branches.{key_of, link_end, link_count, same_key};
 ghost use Rattle.branches.specs.Front.{enter};
 ghost use Rattle.branches.specs.Links.{enter_link, enter_links};
 
@@ -270,13 +271,20 @@ impl Front {
         }
     }
 
+    // Whether k was entered before; a key that comes again mostly does so soon.
+    fn holds(&self, k: Key) -> bool
+        ensures { result ≡ list_any (λ y. same_key y k) (reverse self.now.keys.items) }
+    {
+        self.keys.iter().rev().any(|held| *held == k)
+    }
+
     // The branch b is put in flight unless its key was entered before, or does not fit.
     fn enter(&mut self, lanes: &Lanes, b: Branch)
         requires { b.lane < lanes.now.count }
         ensures { front_of self.new ≡ enter lanes.now.rows.now b (front_of self.old) }
     {
         let k = lanes.key_of(b);
-        if self.keys.contains(&k) {
+        if self.holds(k) {
             return;
         }
         if self.keys.is_full() {

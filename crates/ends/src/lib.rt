@@ -2,11 +2,12 @@
 // holds the places.
 #![tactic(auto)]
 
-ghost use Rattle.std.specs.Prelude.{◌≡◌, ◌+◌, ◌*◌, ◌<◌, ◌≤◌, [], length, set};
+ghost use Rattle.std.specs.Prelude.{◌≡◌, ◌+◌, ◌*◌, ◌<◌, ◌≤◌, [], length, reverse, set};
+ghost use Rattle.std.specs.List.{list_any};
 ghost use Rattle.std.specs.Float.{nan};
 ghost use Rattle.arrayvec.specs.ArrayVec.{array_vec_len};
 ghost use Rattle.rows.specs.Rows.{place_of};
-ghost use Rattle.ends.specs.Ends.{case_of, position_of, short_of, placing_of, end_arc, end_position, end_of, give, place_in};
+ghost use Rattle.ends.specs.Ends.{case_of, position_of, short_of, placing_of, end_arc, end_position, end_of, give, place_in, same_placing};
 
 use arrayvec::ArrayVec;
 use beside::LanePosition;
@@ -167,6 +168,13 @@ impl Found {
         }
     }
 
+    // Whether a place told apart by k was given before.
+    fn holds(&self, k: Placing) -> bool
+        ensures { result ≡ list_any (λ y. same_placing y k) (reverse self.now.placed.items) }
+    {
+        self.placed.iter().rev().any(|held| *held == k)
+    }
+
     // The place a is given unless it was given before.
     fn give(&mut self, a: Advance)
         requires { array_vec_len self.old.out < 1026 }
@@ -174,7 +182,7 @@ impl Found {
         ensures one { array_vec_len self.new.out ≤ array_vec_len self.old.out + 1 }
     {
         let k = a.placing();
-        if self.placed.contains(&k) {
+        if self.holds(k) {
             return;
         }
         self.placed.push(k);

@@ -1,39 +1,37 @@
 -- A key entered before changes nothing, a 1,025th marks the run as full, and any other goes in with its branch.
 use Rattle.std.specs.Prelude.{length, reverse}
-use Rattle.std.specs.List.{list_any}
 use Rattle.std.proofs.Common.{arith, ap, ◌∙◌, sym}
 use Rattle.std.proofs.lemmas.Bool.{eqb-true, eqb-false}
 use Rattle.std.proofs.lemmas.List.{length-reverse}
-use Rattle.branches.specs.declared.Key.{Key}
 use Rattle.branches.specs.Branches.{same_key}
 use Rattle.branches.specs.BranchLaws.{entered_before, enter_none, enter_new}
 use Rattle.branches.specs.Held.{front_of}
-use Rattle.branches.specs.HeldLaws.{pushed, holds_reverse}
+use Rattle.branches.specs.HeldLaws.{pushed, holds_any}
 use Rattle.branches.proofs.Front.enter.Goals as goal
 
-pub returns-then-contains : goal.returns-then-contains
-returns-then-contains c =
+pub returns-then-holds : goal.returns-then-holds
+returns-then-holds c =
     let f = c.args.self.now in
     let k = c.key_of-k.result in
-    let held = c.contains.ensures.value ∙ ap (list_any (λ (y : Key). same_key y k)) c.deref.ensures.0 ∙ sym (holds_reverse same_key k f.keys.items) in
-    entered_before c.args.lanes.now.rows.now c.args.b (front_of f) k c.key_of-k.ensures c.contains.result held c.if-contains.true
+    let held = c.holds.ensures ∙ sym (holds_any same_key k (reverse f.keys.items)) in
+    entered_before c.args.lanes.now.rows.now c.args.b (front_of f) k c.key_of-k.ensures c.holds.result held c.if-holds.true
 
 pub returns-then-is_full : goal.returns-then-is_full
 returns-then-is_full c =
     let f = c.args.self.now in
     let k = c.key_of-k.result in
-    let held = c.contains.ensures.value ∙ ap (list_any (λ (y : Key). same_key y k)) c.deref.ensures.0 ∙ sym (holds_reverse same_key k f.keys.items) in
+    let held = c.holds.ensures ∙ sym (holds_any same_key k (reverse f.keys.items)) in
     let all = length-reverse f.keys.items in
     let is = eqb-true (length f.keys.items) 1024 (sym c.is_full.ensures.value ∙ c.if-is_full.true) in
-    enter_none c.args.lanes.now.rows.now c.args.b (front_of f) k c.key_of-k.ensures c.contains.result held c.if-contains.false (omega arith)
+    enter_none c.args.lanes.now.rows.now c.args.b (front_of f) k c.key_of-k.ensures c.holds.result held c.if-holds.false (omega arith)
 
 pub returns : goal.returns
 returns c =
     let f = c.args.self.now in
     let k = c.key_of-k.result in
-    let held = c.contains.ensures.value ∙ ap (list_any (λ (y : Key). same_key y k)) c.deref.ensures.0 ∙ sym (holds_reverse same_key k f.keys.items) in
+    let held = c.holds.ensures ∙ sym (holds_any same_key k (reverse f.keys.items)) in
     let all = length-reverse f.keys.items in
     let room = eqb-false (length f.keys.items) 1024 (sym c.is_full.ensures.value ∙ c.if-is_full.false) in
-    enter_new c.args.lanes.now.rows.now c.args.b (front_of f) k c.key_of-k.ensures c.contains.result held c.if-contains.false
+    enter_new c.args.lanes.now.rows.now c.args.b (front_of f) k c.key_of-k.ensures c.holds.result held c.if-holds.false
     (omega (arith, room, c.is_full.ensures.fits)) _ _ (ap reverse c.push-2.ensures.items ∙ pushed f.todo.items c.args.b)
     (ap reverse c.push.ensures.items ∙ pushed f.keys.items k)
