@@ -198,7 +198,7 @@ impl Seats<'_> {
     }
 }
 
-// The lane beside `at`'s, at the same s and at its center: 0 for the left of its traffic, 1 for the right.
+// The lane beside `at`'s, at the same s and at its center: 0 for the left of its traffic, 1 for the right; a number, as C has it.
 pub fn beside(seats: Seats, at: LanePosition, side: usize) -> BesideAnswer
     ensures { result ≡ beside_rows seats.entry.lanes.now seats.entry.lane_count seats.entry.fans.now seats.entry.places.now
         seats.entry.place_count seats.entry.bounds.now at side }

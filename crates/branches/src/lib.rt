@@ -74,7 +74,7 @@ pub fn room(up: bool, len: f32, arc: f32) -> f64
     float::f32_to_f64(if up { len - arc } else { arc })
 }
 
-// The length of lane i.
+// The length of lane i; not a method of `Lanes` alone, since a route reads lengths where no points are lent.
 pub fn lane_length(lanes: &[usize], cumulative: &[f32], i: usize) -> f32
     requires { (6 * i + 5 < length lanes.now) × (end_point lanes.now i ≤ length cumulative.now)
         × (0 < length (arcs_of lanes.now cumulative.now i)) }

@@ -32,7 +32,7 @@ impl Default for Advance {
     }
 }
 
-// By what places are told apart.
+// By what places are told apart; the case by document 01's number, as an answer has it.
 #[derive(Clone, Copy, Default, PartialEq, Eq)]
 pub struct Placing {
     pub case: usize,
