@@ -93,16 +93,15 @@ pub fn keys<const N: usize>(file: &[u8], part: &[usize], kind: Key) -> ArrayVec<
     keys
 }
 
-// Whether x is one of the keys. A `for`, since `contains` takes 1.4 times as long here.
+// Whether x is one of the keys. Without a branch, so that several are compared at once: a file seldom has a key twice.
 fn holds(keys: &[usize], x: usize) -> bool
     ensures { result ≡ holds x keys.now }
 {
+    let mut found = false;
     for key in keys {
-        if *key == x {
-            return true;
-        }
+        found |= *key == x;
     }
-    false
+    found
 }
 
 // Whether one of the keys stands twice.

@@ -1,23 +1,26 @@
--- What is left of the keys holds x exactly when all do.
-use Rattle.std.specs.Prelude.{ℕ, eqb}
-use Rattle.std.proofs.Common.{arith, sym, ◌∙◌, eq-eqb, ne_eqb}
-use Rattle.plan_format.specs.Laws.{any_end, any_here, any_later}
+-- What was found, or else what is left of the keys holds x, exactly when the keys hold x.
+use Rattle.std.specs.Prelude.{List, Bool, true, false, ◌||◌, drop, eqb, get_or, ◌∷◌, ◌+◌}
+use Rattle.std.proofs.Common.{rules, arith, ap, refl, sym, ◌≡◌, ◌∙◌, ℕ}
+use Rattle.std.proofs.Math.Bool.{or_assoc}
+use Rattle.plan_format.specs.Laws.{any_end, drop_next}
+use Rattle.plan_format.specs.Plan.{any, holds}
 use Rattle.plan_whole.proofs.holds.Goals as goal
 
-pub returns-then-key-x : goal.returns-then-key-x
-returns-then-key-x c =
-    let l = c.loop-key in
-    let a = c.args in
-    sym (any_here (λ (y : ℕ). eqb y a.x) a.keys.now l.key-index 0 (omega arith) (eq-eqb _ _ c.if-key-x.true)) ∙ l.invariant
+none : (a b : Bool) → b ≡ false → (a || b) ≡ a
+none true b e = refl
+none false b e = e
 
 pub loop-key-preserved : goal.loop-key-preserved
+unfolding any
 loop-key-preserved c =
     let l = c.loop-key in
     let a = c.args in
-    any_later (λ (y : ℕ). eqb y a.x) a.keys.now l.key-index 0 (omega arith) (ne_eqb _ _ c.if-key-x.false) ∙ l.invariant
+    or_assoc l.found (eqb (get_or a.keys.now l.key-index 0) a.x) (holds a.x (drop (l.key-index + 1) a.keys.now))
+    ∙ ap (λ (ys : List ℕ). l.found || holds a.x ys) (sym (drop_next a.keys.now l.key-index 0 (omega arith)))
+    ∙ l.invariant
 
 pub returns : goal.returns
 returns c =
     let l = c.loop-key in
     let a = c.args in
-    sym (any_end (λ (y : ℕ). eqb y a.x) a.keys.now l.key-index 0 (omega arith)) ∙ l.invariant
+    sym (none l.found _ (any_end (λ (y : ℕ). eqb y a.x) a.keys.now l.key-index 0 (omega arith))) ∙ l.invariant
