@@ -1,6 +1,7 @@
 // geometry.rs: a lane's polyline, queried by arc length. It stands in parts of the flat tables: `points` (x y z of each),
 // `cumulative` (the arc length at each point) and `tangents` (x y z at each). `specs/` says what each function answers.
-// What needs the points alone, or the arc lengths alone, takes that list; what needs both is a method of `Polyline`.
+// What needs the points alone, or the arc lengths alone, takes that list; what needs both is a method of `Polyline`, with a function over the two
+// lists where crates above call it.
 #![tactic(auto)]
 
 ghost use Rattle.std.specs.Prelude.{◌≡◌, ◌+◌, ◌*◌, ◌<◌, ◌≤◌, length};

@@ -1,2 +1,3 @@
 -- What C takes and gives in place of an Option.
 pub mod ForC
+pub mod Cases

@@ -108,11 +108,10 @@ pub struct Read {
     pub counts: Counts,
 }
 
-// For C.
 impl From<Result<Counts, Refusal>> for Read {
-    fn from(answer: Result<Counts, Refusal>) -> Read
-        ensures { result ≡ read_by answer }
-    {
+    ghost from_gives = { λ answer read. read ≡ read_by answer };
+
+    fn from(answer: Result<Counts, Refusal>) -> Read {
         match answer {
             Ok(counts) => Read { number: 0, counts },
             Err(refusal) => Read {

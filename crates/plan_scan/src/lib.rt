@@ -17,9 +17,9 @@ pub use starts::RecordStarts;
 
 mod starts;
 
-// Two widths, each with bounds of its own: one test for both would be passed the bounds.
 const LOW: f32 = -4096.0;
 
+// Coordinates and stations have two widths, each with bounds of its own: one test for both would be passed the bounds.
 fn is_coordinate(x: f32) -> bool
     ensures { result ≡ coordinate x }
 {
