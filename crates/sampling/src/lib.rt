@@ -3,19 +3,28 @@
 #![tactic(auto)]
 
 ghost use Rattle.std.specs.Prelude.{◌≡◌, ◌*◌, ◌+◌, ◌-◌, ◌<◌, ◌≤◌, length};
-ghost use Rattle.branches.specs.Tables.{AllLaid};
+ghost use Rattle.beside.specs.Sides.{direction_number};
 ghost use Rattle.geometry.specs.Locate.{point_along};
 ghost use Rattle.geometry.specs.Partition.{Rising};
-ghost use Rattle.geometry.specs.Polyline.{Line};
 ghost use Rattle.rows.specs.Rows.{arcs_of, points_of};
 ghost use Rattle.sampling.specs.Kept.{is_fresh, pushing, put_at, putting};
 ghost use Rattle.sampling.specs.Sampling.{changes_off, entry_on, exit_at, exit_for, is_ahead, is_forward, leads};
-ghost use Rattle.sampling.specs.Sampling.{point_on, route_tables, sample_at, sample_route, steps_of, toward, travel_end};
+ghost use Rattle.sampling.specs.Sampling.{point_on, sample_at, sample_route, steps_of, toward, travel_end};
 ghost use Rattle.sampling.specs.Passes.{AllLinked, Linking, PathRows, Sampled, SegmentSampled};
 
 use beside::Direction;
 use branches::Lanes;
 use coords::Point;
+use geometry::Polyline;
+
+// The lanes of an accepted plan, and the links between them.
+#[derive(Clone, Copy)]
+pub struct LinkedLanes<'a> {
+    pub lanes: Lanes<'a>,
+    pub fans: &'a [usize],
+    pub links: &'a [usize],
+    pub ghost linked: { AllLinked fans.now lanes.count links.now },
+}
 
 // How many points are kept, and the last of them.
 #[derive(Clone, Copy)]
@@ -30,35 +39,24 @@ const ROUTE_STEP: f32 = 2.0;
 const LANE_CHANGE_DIST: f32 = 10.0;
 
 // Whether `to` is reachable from `from` along a lane of this direction.
-pub fn ahead(direction: usize, from: f32, to: f32) -> bool
-    ensures { result ≡ is_ahead direction from to }
+#[tactic(auto, unfolding(crate::specs::Sampling::is_ahead))]
+pub fn ahead(direction: Direction, from: f32, to: f32) -> bool
+    ensures { result ≡ is_ahead (direction_number direction) from to }
 {
-    if direction == 0 {
-        return to >= from;
+    match direction {
+        Direction::Forward => to >= from,
+        Direction::Backward => to <= from,
+        _ => true,
     }
-    if direction == 1 {
-        return to <= from;
-    }
-    true
 }
 
 // `dist` on from `from` toward `end`, without overshooting it.
+#[tactic(auto, unfolding(crate::specs::Sampling::toward))]
 fn advance(from: f32, end: f32, dist: f32) -> f32
     ensures { result ≡ toward from end dist }
 {
     let step = float::signum(end - from) * dist;
     float::clamp(from + step, float::min(from, end), float::max(from, end))
-}
-
-// Whether p is farther than squared distance 1e-6 from the last point.
-fn is_fresh(kept: Kept, p: Point) -> bool
-    ensures { result ≡ is_fresh kept p }
-{
-    let last = kept.last;
-    if 0 < kept.count {
-        return last.distance_squared_to(p) > 1e-6;
-    }
-    true
 }
 
 // Writes p as point i, where the list has room.
@@ -74,111 +72,101 @@ fn put(out: &mut [f32], i: usize, p: Point)
     out[k + 2] = p.z;
 }
 
-// Keeps p unless it is within squared distance 1e-6 of the last point.
-fn push_dedup(kept: Kept, p: Point, out: &mut [f32]) -> Kept
-    requires { kept.count < 18446744073709551615 }
-    ensures { (result ≡ pushing kept p) × (out.new ≡ putting kept p out.old) }
-{
-    let count = kept.count;
-    if is_fresh(kept, p) {
-        put(out, count, p);
-        return Kept {
-            count: count + 1,
-            last: p,
-        };
-    }
-    kept
-}
-
 // How many steps a span takes.
+#[tactic(auto, unfolding(crate::specs::Sampling::steps_of))]
 fn steps_of(span: f32) -> usize
     ensures { result ≡ steps_of span }
 {
     float::saturating_f32_to_usize(float::max(float::ceil(float::abs(span) / ROUTE_STEP), 1.0))
 }
 
-// Sample k of a span.
-fn sample(
-    points: &[f32],
-    cumulative: &[f32],
-    entry: f32,
-    span: f32,
-    steps: usize,
-    k: usize,
-    kept: Kept,
-    out: &mut [f32],
-) -> Kept
-    requires { Line points.now cumulative.now × Rising cumulative.now × (kept.count < 18446744073709551615) }
-    ensures { (result ≡ pushing kept (point_along points.now cumulative.now (sample_at entry span steps k)))
-        × (out.new ≡ putting kept (point_along points.now cumulative.now (sample_at entry span steps k))
-        out.old) }
+// The arc length of sample k of a span.
+fn sample_at(entry: f32, span: f32, steps: usize, k: usize) -> f32
+    ensures { result ≡ sample_at entry span steps k }
 {
     let t = float::nearest_usize_to_f32(k) / float::nearest_usize_to_f32(steps);
-    push_dedup(
-        kept,
-        geometry::point_at(points, cumulative, entry + span * t),
-        out,
-    )
+    entry + span * t
 }
 
-// Points along a lane's centerline from arc length `entry` to `exit`, spaced ~`ROUTE_STEP`; no more once over `room` are kept. The last sample
-// stands outside the loop: `steps` may be the largest usize, where `k + 1` would wrap.
-fn sample_segment(
-    points: &[f32],
-    cumulative: &[f32],
-    entry: f32,
-    exit: f32,
-    room: usize,
-    kept: Kept,
-    out: &mut [f32],
-) -> Kept
-    requires { Line points.now cumulative.now × Rising cumulative.now × (kept.count ≤ room) × (room < 18446744073709551615) }
-    ensures { SegmentSampled points.now cumulative.now entry exit room kept out.old result out.new }
-{
-    let span = exit - entry;
-    if float::abs(span) < 1e-4 {
-        return push_dedup(kept, geometry::point_at(points, cumulative, entry), out);
+impl Kept {
+    // Whether p is farther than squared distance 1e-6 from the last point.
+    #[tactic(auto, unfolding(crate::specs::Kept::is_fresh))]
+    fn is_fresh(&self, p: Point) -> bool
+        ensures { result ≡ is_fresh self.now p }
+    {
+        self.count == 0 || self.last.distance_squared_to(p) > 1e-6
     }
-    let steps = steps_of(span);
-    let mut all = kept;
-    let mut k = 0;
-    while k < steps {
-        all = sample(points, cumulative, entry, span, steps, k, all, out);
-        if room < all.count {
-            return all;
+
+    // Keeps p unless it is within squared distance 1e-6 of the last point.
+    fn push_dedup(&mut self, p: Point, out: &mut [f32])
+        requires { self.old.count < 18446744073709551615 }
+        ensures kept { self.new ≡ pushing self.old p }
+        ensures written { out.new ≡ putting self.old p out.old }
+    {
+        if self.is_fresh(p) {
+            put(out, self.count, p);
+            self.count += 1;
+            self.last = p;
         }
-        k += 1;
     }
-    sample(points, cumulative, entry, span, steps, steps, all, out)
+
+    // Points along a lane's centerline from arc length `entry` to `exit`, spaced ~`ROUTE_STEP`; no more once over `room` are kept. The last sample
+    // stands outside the loop: `steps` may be the largest usize, where `k + 1` would wrap.
+    fn sample_segment(
+        &mut self,
+        line: Polyline,
+        entry: f32,
+        exit: f32,
+        room: usize,
+        out: &mut [f32],
+    )
+        requires { Rising line.cumulative.now × (self.old.count ≤ room) × (room < 18446744073709551615) }
+        ensures { SegmentSampled line.entry.points.now line.entry.cumulative.now entry exit room self.old out.old self.new out.new }
+    {
+        let span = exit - entry;
+        if float::abs(span) < 1e-4 {
+            self.push_dedup(line.point_at(entry), out);
+            return;
+        }
+        let steps = steps_of(span);
+        for k in 0..steps {
+            self.push_dedup(line.point_at(sample_at(entry, span, steps, k)), out);
+            if room < self.count {
+                return;
+            }
+        }
+        self.push_dedup(line.point_at(sample_at(entry, span, steps, steps)), out);
+    }
+
+    // The points of lane i from `entry` to `exit`.
+    fn sample_lane(
+        &mut self,
+        lanes: &Lanes,
+        i: usize,
+        entry: f32,
+        exit: f32,
+        room: usize,
+        out: &mut [f32],
+    )
+        requires { (i < lanes.now.count) × (self.old.count ≤ room) × (room < 18446744073709551615) }
+        ensures { SegmentSampled (points_of lanes.now.rows.now lanes.now.points.now i) (arcs_of lanes.now.rows.now lanes.now.cumulative.now i)
+            entry exit room self.old out.old self.new out.new }
+    {
+        let (points, cumulative) = lanes.line(i);
+        self.sample_segment(Polyline { points, cumulative }, entry, exit, room, out);
+    }
 }
 
 // Whether one of the links from row `first` to before `end` leads to the lane.
+#[tactic(auto, using(crate::specs::Passes::leading_found, crate::specs::Passes::leading_next, crate::specs::Passes::leading_ends))]
 fn leads(links: &[usize], first: usize, end: usize, lane: usize) -> bool
     requires { (first ≤ end) × (2 * end ≤ length links.now) }
     ensures { result ≡ leads links.now first (end - first) lane }
 {
-    let mut at = first;
-    while at < end {
+    for at in first..end {
         if links[2 * at + 1] == lane {
             return true;
         }
-        at += 1;
-    }
-    false
-}
-
-// Whether lane i is left for `next` by a lane change: a neighbour, not a successor.
-fn changes_off(fans: &[usize], links: &[usize], i: usize, next: usize) -> bool
-    requires { Linking fans.now links.now i }
-    ensures { result ≡ changes_off fans.now links.now i next }
-{
-    let at = 5 * i;
-    let first = fans[at];
-    let mid = first + fans[at + 1];
-    let last = mid + fans[at + 2];
-    let end = last + fans[at + 3];
-    if leads(links, last, end, next) {
-        return !leads(links, first, mid, next);
     }
     false
 }
@@ -197,6 +185,7 @@ fn is_forward(lanes: &Lanes, i: usize, next: usize) -> bool
 }
 
 // The end by which lane i is left for `next`.
+#[tactic(auto, unfolding(crate::specs::Sampling::travel_end))]
 fn travel_end(lanes: &Lanes, i: usize, next: usize) -> f32
     requires { (i < lanes.now.count) × (next < lanes.now.count) }
     ensures { result ≡ travel_end lanes.now.rows.now lanes.now.points.now lanes.now.cumulative.now i next }
@@ -207,33 +196,14 @@ fn travel_end(lanes: &Lanes, i: usize, next: usize) -> f32
     0.0
 }
 
-// Where lane i, entered at `entry`, is left for `next`.
-fn exit_for(
-    lanes: &Lanes,
-    fans: &[usize],
-    links: &[usize],
-    i: usize,
-    next: usize,
-    entry: f32,
-) -> f32
-    requires { (i < lanes.now.count) × (next < lanes.now.count) × Linking fans.now links.now i }
-    ensures { result ≡ exit_for (route_tables lanes.now.rows.now lanes.now.points.now lanes.now.cumulative.now fans.now links.now) i next entry }
-{
-    let end = travel_end(lanes, i, next);
-    if changes_off(fans, links, i, next) {
-        return advance(entry, end, LANE_CHANGE_DIST);
-    }
-    end
-}
-
 // Where lane i, entered at `entry`, ends the route.
+#[tactic(auto, using(crate::specs::Structs::ahead_at), unfolding(crate::specs::Sampling::exit_at))]
 fn exit_at(lanes: &Lanes, i: usize, entry: f32, goal_s: f32) -> f32
     requires { i < lanes.now.count }
     ensures { result ≡ exit_at lanes.now.rows.now lanes.now.cumulative.now i entry goal_s }
 {
     let goal = float::clamp(goal_s, 0.0, lanes.length(i));
-    let rows = lanes.rows;
-    if ahead(rows[6 * i + 2], entry, goal) {
+    if ahead(lanes.direction(i), entry, goal) {
         return goal;
     }
     entry
@@ -258,72 +228,72 @@ fn entry_on(lanes: &Lanes, i: usize, p: Point) -> f32
     q.s
 }
 
-// The points of lane i from `entry` to `exit`.
-fn sample_lane(
-    lanes: &Lanes,
-    i: usize,
-    entry: f32,
-    exit: f32,
-    room: usize,
-    kept: Kept,
-    out: &mut [f32],
-) -> Kept
-    requires { (i < lanes.now.count) × (kept.count ≤ room) × (room < 18446744073709551615) }
-    ensures { SegmentSampled (points_of lanes.now.rows.now lanes.now.points.now i) (arcs_of lanes.now.rows.now lanes.now.cumulative.now i)
-        entry exit room kept out.old result out.new }
-{
-    let (points, arcs) = lanes.line(i);
-    sample_segment(points, arcs, entry, exit, room, kept, out)
-}
+impl LinkedLanes<'_> {
+    ghost use Rattle.sampling.specs.Structs.{tables_in};
 
-// Samples the lane path into points: each lane's centerline traversed in its travel direction, from the first lane's entry projection to the
-// last lane's exit projection. No more are sampled once one over `room` is kept; of the points kept so many are written as `out` has room for.
-pub fn sample_route<'a>(
-    lanes: &'a [usize],
-    n: usize,
-    points: &'a [f32],
-    cumulative: &'a [f32],
-    fans: &[usize],
-    links: &[usize],
-    path: &[usize],
-    start_s: f32,
-    goal_s: f32,
-    room: usize,
-    out: &mut [f32],
-) -> Kept
-    requires { PathRows path.now n × AllLaid lanes.now n points.now cumulative.now × AllLinked fans.now n links.now
-        × (room < 18446744073709551615) }
-    ensures { Sampled room (sample_route (route_tables lanes.now points.now cumulative.now
-        fans.now links.now) path.now start_s goal_s) out.old result out.new }
-{
-    let lines = Lanes {
-        rows: lanes,
-        count: n,
-        points,
-        cumulative,
-    };
-    let mut i = path[0];
-    let mut entry = float::clamp(start_s, 0.0, lines.length(i));
-    let mut kept = Kept {
-        count: 0,
-        last: Point {
-            x: 0.0,
-            y: 0.0,
-            z: 0.0,
-        },
-    };
-    let mut k = 1;
-    while k < path.len() {
-        let next = path[k];
-        let exit = exit_for(&lines, fans, links, i, next, entry);
-        kept = sample_lane(&lines, i, entry, exit, room, kept, out);
-        if room < kept.count {
-            return kept;
-        }
-        entry = entry_on(&lines, next, point_on(&lines, i, exit));
-        i = next;
-        k += 1;
+    // Whether lane i is left for `next` by a lane change: a neighbour, not a successor.
+    #[tactic(auto, unfolding(crate::specs::Sampling::changes_off))]
+    fn changes_off(&self, i: usize, next: usize) -> bool
+        requires { i < self.now.lanes.count }
+        ensures { result ≡ changes_off self.now.fans.now self.now.links.now i next }
+    {
+        let fans = self.fans;
+        let at = 5 * i;
+        let first = fans[at];
+        let mid = first + fans[at + 1];
+        let last = mid + fans[at + 2];
+        let end = last + fans[at + 3];
+        leads(self.links, last, end, next) && !leads(self.links, first, mid, next)
     }
-    let exit = exit_at(&lines, i, entry, goal_s);
-    sample_lane(&lines, i, entry, exit, room, kept, out)
+
+    // Where lane i, entered at `entry`, is left for `next`.
+    #[tactic(auto, unfolding(crate::specs::Sampling::exit_for))]
+    fn exit_for(&self, i: usize, next: usize, entry: f32) -> f32
+        requires { (i < self.now.lanes.count) × (next < self.now.lanes.count) }
+        ensures { result ≡ exit_for (tables_in self.now) i next entry }
+    {
+        let end = travel_end(&self.lanes, i, next);
+        if self.changes_off(i, next) {
+            return advance(entry, end, LANE_CHANGE_DIST);
+        }
+        end
+    }
+
+    // Samples the lane path into points: each lane's centerline traversed in its travel direction, from the first lane's entry projection to the
+    // last lane's exit projection. No more are sampled once one over `room` is kept; of the points kept so many are written as `out` has room for.
+    pub fn sample_route(
+        &self,
+        path: &[usize],
+        start_s: f32,
+        goal_s: f32,
+        room: usize,
+        out: &mut [f32],
+    ) -> Kept
+        requires { PathRows path.now self.now.lanes.count × (room < 18446744073709551615) }
+        ensures { Sampled room (sample_route (tables_in self.now) path.now start_s goal_s) out.old result out.new }
+    {
+        let lanes = &self.lanes;
+        let mut i = path[0];
+        let mut entry = float::clamp(start_s, 0.0, lanes.length(i));
+        let mut kept = Kept {
+            count: 0,
+            last: Point {
+                x: 0.0,
+                y: 0.0,
+                z: 0.0,
+            },
+        };
+        for next in &path[1..] {
+            let exit = self.exit_for(i, *next, entry);
+            kept.sample_lane(lanes, i, entry, exit, room, out);
+            if room < kept.count {
+                return kept;
+            }
+            entry = entry_on(lanes, *next, point_on(lanes, i, exit));
+            i = *next;
+        }
+        let exit = exit_at(lanes, i, entry, goal_s);
+        kept.sample_lane(lanes, i, entry, exit, room, out);
+        kept
+    }
 }
