@@ -11,7 +11,6 @@ use Rattle.std.proofs.Math.ListN.{length, length-map}
 use Rattle.coords.specs.Coords.{finite_point}
 use Rattle.coords.specs.declared.Point.{Point}
 use Rattle.geometry.specs.Over.{over, over_next}
-use Rattle.geometry.specs.declared.Projection.{Projection}
 use Rattle.nearest.specs.Answer.{row_below}
 use Rattle.network.specs.Lanes.{Lane, drives_table}
 use Rattle.network.specs.Nearest.{nearest_lane}

@@ -8,7 +8,7 @@ ghost use Rattle.geometry.specs.Over.{over};
 ghost use Rattle.network.specs.Tables.{lanes_from};
 ghost use Rattle.rows.specs.Rows.{lane_number};
 ghost use Rattle.sampling.specs.Kept.{first_of, flat};
-ghost use Rattle.sampling.specs.Passes.{PathRows};
+ghost use Rattle.sampling.specs.Passes.{PathRows, Sampled};
 ghost use Rattle.sampling.specs.Sampling.{route_tables, sample_route};
 ghost use Rattle.search.specs.Structs.{result_of};
 ghost use Rattle.search.specs.Search.{found};
@@ -19,11 +19,13 @@ ghost use Rattle.route.specs.Steps.{RowIn};
 mod route_rows;
 
 use arrayvec::ArrayVec;
+use beside::Direction;
 use coords::Point;
 use nearest::Lanes;
 use network::Nearest;
 use plan_format::Refusal;
 use route_rows::RouteRows;
+use sampling::{Kept, LinkedLanes};
 use search::{Graph, LanePath};
 
 // Document 01's number, 0 for an answer; how many lanes and points stand in the lists, and the length. All else is zero where refused.
@@ -82,7 +84,7 @@ impl RouteRows<'_> {
         ensures { result ≡ suffices self.now.lanes.now start s goal t }
     {
         let lanes = self.lanes;
-        start == goal && sampling::ahead(lanes[6 * start + 2], s, t)
+        start == goal && sampling::ahead(Direction::from(lanes[6 * start + 2]), s, t)
     }
 
     // Shortest lane path from `start` to `goal`, each a lane and a distance along its centerline.
@@ -115,24 +117,30 @@ impl RouteRows<'_> {
         }
     }
 
+    // Samples a path into points, of which so many are written as `out` has room for.
+    fn sample_route(&self, path: &[usize], s: f32, t: f32, room: usize, out: &mut [f32]) -> Kept
+        requires { PathRows path.now self.now.n × (room < 18446744073709551615) }
+        ensures { Sampled room (sample_route (tables_in self.now) path.now s t) out.old result out.new }
+    {
+        let linked = LinkedLanes {
+            lanes: branches::Lanes {
+                rows: self.lanes,
+                count: self.n,
+                points: self.points,
+                cumulative: self.cumulative,
+            },
+            fans: self.fans,
+            links: self.links,
+        };
+        linked.sample_route(path, s, t, room, out)
+    }
+
     // How many points a path has; where there are over `room`, one more than that.
     fn count_points(&self, path: &[usize], s: f32, t: f32, room: usize) -> usize
         requires { PathRows path.now self.now.n × (room < 18446744073709551615) }
         ensures { result ≡ length (first_of (room + 1) (sample_route (tables_in self.now) path.now s t)) }
     {
-        let kept = sampling::sample_route(
-            self.lanes,
-            self.n,
-            self.points,
-            self.cumulative,
-            self.fans,
-            self.links,
-            path,
-            s,
-            t,
-            room,
-            &mut [],
-        );
+        let kept = self.sample_route(path, s, t, room, &mut []);
         kept.count
     }
 
@@ -143,19 +151,7 @@ impl RouteRows<'_> {
         ensures { waypoints.new ≡ over (flat (sample_route (tables_in self.now) path.now s t)) waypoints.old }
     {
         let room = waypoints.len() / 3;
-        sampling::sample_route(
-            self.lanes,
-            self.n,
-            self.points,
-            self.cumulative,
-            self.fans,
-            self.links,
-            path,
-            s,
-            t,
-            room,
-            waypoints,
-        );
+        self.sample_route(path, s, t, room, waypoints);
     }
 
     // The route along a path: nothing is written unless the whole of it fits.

@@ -1,11 +1,12 @@
 -- The same lane, and the goal ahead on it.
 use Rattle.std.proofs.Common.{eq-eqb, ne_eqb}
 use Rattle.route.specs.Route.{suffices}
+use Rattle.sampling.specs.Structs.{ahead_at}
 use Rattle.route.proofs.route_rows.RouteRows.suffices.Goals as goal
 
 pub returns-then-start-goal : goal.returns-then-start-goal
 unfolding suffices
-returns-then-start-goal c = simp (eq-eqb c.args.start c.args.goal c.if-start-goal.true) c.ahead.ensures
+returns-then-start-goal c = simp (eq-eqb c.args.start c.args.goal c.if-start-goal.true) (rw (c.from.ensures, ahead_at) at c.ahead.ensures)
 
 pub returns-else-start-goal : goal.returns-else-start-goal
 unfolding suffices
