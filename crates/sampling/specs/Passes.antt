@@ -1,8 +1,9 @@
 -- What a pass over a path's samples gives that stops once more than `room` points are kept, and laws of its loops.
 use Rattle.std.specs.Prelude.{Bool, cond, false, true, ◌||◌, ◌≡◌, eqb, ltb, get_or, length}
+use Rattle.std.specs.List.{list_any, range_with_len}
 use mathlib.Core.List.{List, [], append_assoc, ◌++◌, ◌∷◌}
 use Rattle.std.proofs.Math.Path.{ap, ap₂, refl, subst, sym}
-use Rattle.std.proofs.Common.{◌∙◌, not-suc-le-zero, add-one, eq-eqb, lt-ltb, ne_eqb, drop_of_length-le, length-append, length-drop, length-set}
+use Rattle.std.proofs.Common.{◌∙◌, not-suc-le-zero, add-one, lt-ltb, drop_of_length-le, length-append, length-drop, length-set}
 use Prim.Native.Nat.{suc, zero, ℕ, ◌*◌, ◌+◌, ◌-◌, ◌/◌, ◌<◌, ◌≤◌}
 use native.Mathlib.Omega.{arith}
 use Rattle.std.specs.Float.Ieee.{Float, binary32, lt, sub}
@@ -295,30 +296,12 @@ module _ (point : Float → Point) (entry exit a : Float) (e : a ≡ abs_of (sub
 
 -- ---- `leads`
 
-module _ (links : List ℕ) (lane : ℕ) where
-  -- what the links from row `at` on say is what all of them say
-  pub record Leading (first end at : ℕ) : Type 0 where
-    pub past : at ≤ end
-    pub rest : leads links at (end - at) lane ≡ leads links first (end - first) lane
-
-  module _ (first end at : ℕ) (L : Leading first end at) (h : at < end) where
-    step : leads links at (end - at) lane ≡ (eqb (leads_to links at) lane || leads links (at + 1) (end - (at + 1)) lane)
-    unfolding leads
-    step = let n : end - at ≡ suc (end - (at + 1)) = omega arith in ap (λ (m : ℕ). leads links at m lane) n
-
-    pub leading_found : leads_to links at ≡ lane → true ≡ leads links first (end - first) lane
-    leading_found e =
-        ap (λ (b : Bool). b || leads links (at + 1) (end - (at + 1)) lane) (sym (eq-eqb (leads_to links at) lane e)) ∙ sym step ∙ L.rest
-
-    pub leading_next : (leads_to links at ≡ lane → ⊥) → Leading first end (at + 1)
-    leading_next e = record {
-      past = omega arith;
-      rest = ap (λ (b : Bool). b || leads links (at + 1) (end - (at + 1)) lane) (sym (ne_eqb (leads_to links at) lane e)) ∙ sym step ∙ L.rest;
-    }
-
-  pub leading_ends : (first end at : ℕ) → Leading first end at → end ≤ at → false ≡ leads links first (end - first) lane
-  unfolding leads
-  leading_ends first end at L h = let n : 0 ≡ end - at = omega arith in ap (λ (m : ℕ). leads links at m lane) n ∙ L.rest
+-- whether any of n rows from `first` on leads to the lane
+pub leads_any : (links : List ℕ) (lane n first : ℕ)
+    → list_any (λ at. eqb (leads_to links at) lane) (range_with_len first n) ≡ leads links first n lane
+unfolding leads
+leads_any links lane zero first = refl
+leads_any links lane (suc n) first = ap (λ (b : Bool). eqb (leads_to links first) lane || b) (leads_any links lane n (first + 1))
 
 -- ---- `sample_route`
 

@@ -158,17 +158,11 @@ impl Kept {
 }
 
 // Whether one of the links from row `first` to before `end` leads to the lane.
-#[tactic(auto, using(crate::specs::Passes::leading_found, crate::specs::Passes::leading_next, crate::specs::Passes::leading_ends))]
 fn leads(links: &[usize], first: usize, end: usize, lane: usize) -> bool
     requires { (first ≤ end) × (2 * end ≤ length links.now) }
     ensures { result ≡ leads links.now first (end - first) lane }
 {
-    for at in first..end {
-        if links[2 * at + 1] == lane {
-            return true;
-        }
-    }
-    false
+    (first..end).any(|at| links[2 * at + 1] == lane)
 }
 
 // Travel order: a forward lane runs along its polyline, a backward one against it, and a two-way one toward the next lane: `nearer_end` is
