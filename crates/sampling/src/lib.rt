@@ -111,7 +111,7 @@ impl Kept {
     }
 
     // Points along a lane's centerline from arc length `entry` to `exit`, spaced ~`ROUTE_STEP`; no more once over `room` are kept. The last sample
-    // stands outside the loop: `steps` may be the largest usize, where `k + 1` would wrap.
+    // stands outside the loop: `steps` may be the largest usize, where `steps + 1` would wrap.
     fn sample_segment(
         &mut self,
         line: Polyline,
