@@ -5,12 +5,13 @@ ghost use Rattle.std.specs.Prelude.{◌≡◌, ◌*◌, take};
 ghost use Rattle.geometry.specs.Over.{over};
 ghost use Rattle.geometry_rows.specs.Rows.{cumulative_rows, tangent_rows};
 ghost use Rattle.plan_format.specs.Reading.{opened};
+ghost use Rattle.plan_format.specs.Refusals.{read_by};
 ghost use Rattle.tables.specs.LaneTables.{Opens, lane_tables, too_short};
 ghost use Rattle.tables.specs.Opening.{Polylines};
 
 use geometry_rows::{build_cumulative, build_tangents};
 use plan::read_plan;
-use plan_format::{Read, Refusal};
+use plan_format::{Counts, Refusal};
 
 // The arc lengths and the tangents of n lanes with m points, from their rows in the plan's tables.
 fn build(
@@ -37,8 +38,8 @@ fn build(
     build_tangents(ls, n, ps, es, tangents);
 }
 
-// Reads the plan of a file into the lent tables: numbers 1 to 8 and the counts. Nothing is written unless the answer is 0.
-// `side` is the side that a caller gives, 0 where none does.
+// Reads the plan of a file into the lent tables: numbers 1 to 8, or the counts. Nothing is written of a file that is refused.
+// `side` is the side that a caller gives, 0 where none does. The tables come one by one, as C lends them.
 pub fn open(
     file: &[u8],
     side: usize,
@@ -53,7 +54,7 @@ pub fn open(
     places: &mut [usize],
     cumulative: &mut [f32],
     tangents: &mut [f32],
-) -> Read
+) -> Result<Counts, Refusal>
     ensures { Opens
         (opened
         (too_short
@@ -61,7 +62,7 @@ pub fn open(
         sections.old bounds.old stations.old places.old cumulative.old
         tangents.old))
         side file.now)
-        result
+        (read_by result)
         (lane_tables lanes.old points.old ends.old fans.old links.old
         sections.old bounds.old stations.old places.old cumulative.old
         tangents.old)
@@ -70,19 +71,16 @@ pub fn open(
         tangents.new) }
 {
     if cumulative.len() < 4096 {
-        return Read::from(Err(Refusal::ShortTable));
+        return Err(Refusal::ShortTable);
     }
     if tangents.len() < 12288 {
-        return Read::from(Err(Refusal::ShortTable));
+        return Err(Refusal::ShortTable);
     }
-    let r = Read::from(read_plan(
+    let counts = read_plan(
         file, side, lanes, points, ends, fans, links, sections, bounds, stations, places,
-    ));
-    if r.number != 0 {
-        return r;
-    }
-    let n = r.counts.lanes;
-    let m = r.counts.points;
+    )?;
+    let n = counts.lanes;
+    let m = counts.points;
     build(lanes, points, ends, n, m, cumulative, tangents);
-    r
+    Ok(counts)
 }
