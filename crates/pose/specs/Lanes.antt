@@ -1,5 +1,5 @@
 -- The pose on a lane at an arc length: of a plan's lanes, and of its rows. Definitions only.
-use Rattle.std.specs.Prelude.{cond, List, ℕ, ◌*◌, ◌+◌, ◌<◌, ◌≤◌, eqb, Float, get_or, length}
+use Rattle.std.specs.Prelude.{cond, Result, Ok, Err, List, ℕ, ◌*◌, ◌+◌, ◌<◌, ◌≤◌, eqb, Float, get_or, length}
 use Rattle.coords.specs.Coords.{zero_vector, zero⁺}
 use Rattle.geometry.specs.Locate.{pose_along}
 use Rattle.geometry.specs.Partition.{Rising}
@@ -7,6 +7,8 @@ use Rattle.geometry.specs.Polyline.{Line}
 use Rattle.geometry.specs.declared.Pose.{Pose}
 use Rattle.plan_find.specs.FirstRow.{first_row, is_lane}
 use Rattle.plan_format.specs.Plan.{Decoded, Plan, accepted, lane_of, refused}
+use Rattle.plan_format.specs.Refusals.{number_of}
+use Rattle.plan_format.specs.declared.Refusal.{Refusal}
 use Rattle.rows.specs.Rows.{arcs_of, end_point, points_of, tangents_of}
 use Rattle.tables.specs.LaneTables.{cumulative_row, no_lane, tangent_row}
 use Rattle.pose.specs.declared.Posed.{Posed}
@@ -16,6 +18,11 @@ refused_pose n = record { number = n; pose = record { position = record { x = ze
 
 abbrev pub posed_at : Pose → Posed
 posed_at q = record { number = 0; pose = q }
+
+-- the answer that C gets
+abbrev pub posed_by : Result Pose Refusal → Posed
+posed_by (Ok q) = posed_at q
+posed_by (Err e) = refused_pose (number_of e)
 
 -- NUMBER 12: the plan has no lane with the number n
 unfoldable pub pose_in : Plan → ℕ → Float → Posed

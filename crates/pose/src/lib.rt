@@ -4,14 +4,14 @@
 ghost use Rattle.std.specs.Prelude.{◌≡◌, ◌<◌};
 ghost use Rattle.geometry.specs.Locate.{pose_along};
 ghost use Rattle.rows.specs.Rows.{arcs_of, points_of, tangents_of};
-ghost use Rattle.pose.specs.Lanes.{refused_pose, pose_row, Polyline, Polylines};
+ghost use Rattle.pose.specs.Lanes.{posed_by, pose_row, Polyline, Polylines};
 
 use coords::{Point, Vector};
 use geometry::{Pose, pose_at};
 use plan_find::find_lane;
-use plan_format::LaneId;
+use plan_format::{LaneId, Refusal};
 
-// What `pose` answers: document 01's number, 0 with the pose; zeros where refused.
+// What C gets for `pose`: document 01's number, 0 with the pose; zeros where refused.
 #[repr(C)]
 #[derive(Clone, Copy)]
 pub struct Posed {
@@ -19,24 +19,28 @@ pub struct Posed {
     pub pose: Pose,
 }
 
-// The answer of a refusal.
-pub fn refuse(n: usize) -> Posed
-    ensures { result ≡ refused_pose n }
-{
-    Posed {
-        number: n,
-        pose: Pose {
-            position: Point {
-                x: 0.0,
-                y: 0.0,
-                z: 0.0,
+impl From<Result<Pose, Refusal>> for Posed {
+    ghost from_gives = { λ found answer. answer ≡ posed_by found };
+
+    fn from(found: Result<Pose, Refusal>) -> Posed {
+        match found {
+            Ok(pose) => Posed { number: 0, pose },
+            Err(refusal) => Posed {
+                number: refusal.number(),
+                pose: Pose {
+                    position: Point {
+                        x: 0.0,
+                        y: 0.0,
+                        z: 0.0,
+                    },
+                    heading: Vector {
+                        x: 0.0,
+                        y: 0.0,
+                        z: 0.0,
+                    },
+                },
             },
-            heading: Vector {
-                x: 0.0,
-                y: 0.0,
-                z: 0.0,
-            },
-        },
+        }
     }
 }
 
@@ -68,15 +72,12 @@ impl<'a> Lanes<'a> {
 
     // The pose on a lane at the arc length s, which is clamped to the lane; 12 for a lane that is not among the rows. A NaN s is not clamped:
     // it lies on the first segment and gives a NaN position with a zero heading, or that segment's start where it is at most 1e-6 long.
-    pub fn pose(&self, lane: LaneId, s: f32) -> Posed
-        ensures { result ≡ pose_row lane.0 s self.now.count self.now.rows.now self.now.points.now self.now.cumulative.now self.now.tangents.now }
+    pub fn pose(&self, lane: LaneId, s: f32) -> Result<Pose, Refusal>
+        ensures { posed_by result ≡ pose_row lane.0 s self.now.count self.now.rows.now self.now.points.now self.now.cumulative.now self.now.tangents.now }
     {
         match find_lane(lane, self.rows, self.count) {
-            None => refuse(12),
-            Some(i) => Posed {
-                number: 0,
-                pose: self.pose_on(i, s),
-            },
+            None => Err(Refusal::OffTheLanes),
+            Some(i) => Ok(self.pose_on(i, s)),
         }
     }
 }

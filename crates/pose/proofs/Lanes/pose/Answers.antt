@@ -7,8 +7,7 @@ pub returns-in-None : goal.returns-in-None
 returns-in-None c =
     let a = c.args in
     let s = a.self.now in
-    unknown a.lane.0 a.s s.count s.rows.now s.points.now s.cumulative.now s.tangents.now 256 c.in-None.ensures.row refl
-    c.refuse.result c.refuse.ensures
+    unknown a.lane.0 a.s s.count s.rows.now s.points.now s.cumulative.now s.tangents.now 256 c.in-None.ensures.row refl _ refl
 
 pub returns-in-Some : goal.returns-in-Some
 returns-in-Some c =
