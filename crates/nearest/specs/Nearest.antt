@@ -1,5 +1,5 @@
 -- The nearest lane of a plan to a point: the lanes from the plan's records, and the whole answer with its number. Definitions only.
-use Rattle.std.specs.Prelude.{cond, List, [], ◌∷◌, suc, ℕ, ◌≤◌, Float, length}
+use Rattle.std.specs.Prelude.{cond, Result, Ok, Err, List, [], ◌∷◌, suc, ℕ, ◌≤◌, Float, length}
 use Rattle.coords.specs.Coords.{finite_point, zero⁺}
 use Rattle.coords.specs.declared.Point.{Point}
 use Rattle.network.specs.Lanes.{Lane, driving, drives_table}
@@ -8,7 +8,10 @@ use Rattle.network.specs.Tables.{Arcs, Rows, lanes_from}
 use Rattle.plan_format.specs.Plan.{Decoded, Plan, accepted, refused}
 use Rattle.plan_format.specs.Records.{lane_id}
 use Rattle.plan_format.specs.Records as records
+use Rattle.plan_format.specs.Refusals.{number_of}
+use Rattle.plan_format.specs.declared.Refusal.{Refusal}
 use Rattle.nearest.specs.declared.NearestAnswer.{NearestAnswer}
+use Rattle.nearest.specs.declared.NearestLane.{NearestLane}
 
 -- the lane of a record that stands in a row
 abbrev pub row_lane : ℕ → records.Lane → Lane
@@ -30,6 +33,11 @@ refusal n =
       lane = lane_id 0;
       projection = record { s = zero⁺; point = record { x = zero⁺; y = zero⁺; z = zero⁺ }; offset = zero⁺ };
     }
+
+-- the answer that C gets
+abbrev pub nearest_by : Result NearestLane Refusal → NearestAnswer
+nearest_by (Ok a) = record { number = 0; lane = a.lane; projection = a.projection }
+nearest_by (Err e) = refusal (number_of e)
 
 -- NUMBER 10 where there is none; else the lane's number and the projection onto it
 abbrev pub answer_of : Best → NearestAnswer

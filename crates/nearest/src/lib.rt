@@ -6,21 +6,55 @@ ghost use Rattle.std.specs.Prelude.{◌≡◌, ℕ, map};
 ghost use Rattle.network.specs.Lanes.{drives_table};
 ghost use Rattle.network.specs.Nearest.{nearest_lane};
 ghost use Rattle.network.specs.Tables.{lanes_from, told};
-ghost use Rattle.nearest.specs.Nearest.{Searchable, nearest_among, refusal};
+ghost use Rattle.nearest.specs.Nearest.{Searchable, nearest_among, nearest_by};
 ghost use Rattle.coords.specs.declared.Point.{Point};
 
 use coords::Point;
 use geometry::Projection;
 use network::{Nearest, Spans};
-use plan_format::LaneId;
+use plan_format::{LaneId, Refusal};
 
-// Document 01's number, 0 for an answer; the lane, and the place on it. All else is zero where refused.
+// The nearest lane, and the place on it.
+#[derive(Clone, Copy)]
+pub struct NearestLane {
+    pub lane: LaneId,
+    pub projection: Projection,
+}
+
+// What C gets for `nearest_lane`: document 01's number, 0 for an answer; the lane, and the place on it. All else is zero where refused.
 #[repr(C)]
 #[derive(Clone, Copy)]
 pub struct NearestAnswer {
     pub number: usize,
     pub lane: LaneId,
     pub projection: Projection,
+}
+
+impl From<Result<NearestLane, Refusal>> for NearestAnswer {
+    ghost from_gives = { λ found answer. answer ≡ nearest_by found };
+
+    fn from(found: Result<NearestLane, Refusal>) -> NearestAnswer {
+        match found {
+            Ok(nearest) => NearestAnswer {
+                number: 0,
+                lane: nearest.lane,
+                projection: nearest.projection,
+            },
+            Err(refusal) => NearestAnswer {
+                number: refusal.number(),
+                lane: LaneId(0),
+                projection: Projection {
+                    s: 0.0,
+                    point: Point {
+                        x: 0.0,
+                        y: 0.0,
+                        z: 0.0,
+                    },
+                    offset: 0.0,
+                },
+            },
+        }
+    }
 }
 
 // The lanes of a plan: a row for each, and the place and the arc length of each point.
@@ -31,27 +65,6 @@ pub struct Lanes<'a> {
     pub points: &'a [f32],
     pub cumulative: &'a [f32],
     pub ghost searchable: { Searchable rows.now points.now cumulative.now count },
-}
-
-// A refused answer.
-pub fn refuse(number: usize) -> NearestAnswer
-    ensures { result ≡ refusal number }
-{
-    let point = Point {
-        x: 0.0,
-        y: 0.0,
-        z: 0.0,
-    };
-    let projection = Projection {
-        s: 0.0,
-        point,
-        offset: 0.0,
-    };
-    NearestAnswer {
-        number,
-        lane: LaneId(0),
-        projection,
-    }
 }
 
 impl<'a> Lanes<'a> {
@@ -87,21 +100,20 @@ impl<'a> Lanes<'a> {
         found
     }
 
-    // The nearest lane to p.
-    pub fn nearest_lane(&self, p: Point) -> NearestAnswer
-        ensures { result ≡ nearest_among (lanes_from self.now.rows.now self.now.points.now self.now.count 0) p }
+    // The nearest lane to p, 9 where a coordinate is not finite, 10 where no lane drives.
+    pub fn nearest_lane(&self, p: Point) -> Result<NearestLane, Refusal>
+        ensures { nearest_by result ≡ nearest_among (lanes_from self.now.rows.now self.now.points.now self.now.count 0) p }
     {
         if !p.is_finite() {
-            return refuse(9);
+            return Err(Refusal::NotFinite);
         }
         let [best] = self.nearest_rows([p]);
         match best {
-            None => refuse(10),
-            Some(b) => NearestAnswer {
-                number: 0,
+            None => Err(Refusal::NoLaneDrives),
+            Some(b) => Ok(NearestLane {
                 lane: LaneId(self.rows[6 * b.row]),
                 projection: b.projection,
-            },
+            }),
         }
     }
 }

@@ -10,7 +10,7 @@ only is e = sym is ∙ ap (λ (xs : List (Option Nearest)). slice_index_or xs 0 
 
 pub returns-then-not-is_finite : goal.returns-then-not-is_finite
 returns-then-not-is_finite c =
-    c.refuse.ensures ∙ not_finite _ _ _ _ (sym c.is_finite.ensures ∙ c.if-not-is_finite.true)
+    not_finite _ _ _ _ (sym c.is_finite.ensures ∙ c.if-not-is_finite.true)
 
 pub overflow_mul-result : goal.overflow_mul-result
 overflow_mul-result c =
@@ -32,8 +32,7 @@ bounds-self-b c =
 
 pub returns-in-None : goal.returns-in-None
 returns-in-None c =
-    c.refuse-in-None.ensures
-    ∙ none_found _ _ _ _ (sym c.is_finite.ensures ∙ c.if-not-is_finite.false) (only c.in-None.is c.nearest_rows.ensures)
+    none_found _ _ _ _ (sym c.is_finite.ensures ∙ c.if-not-is_finite.false) (only c.in-None.is c.nearest_rows.ensures)
 
 pub returns-in-Some : goal.returns-in-Some
 returns-in-Some c =
