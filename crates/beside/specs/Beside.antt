@@ -47,7 +47,7 @@ refusal number = record { number = number; at = record { lane = record { 0 = 0 }
 abbrev pub center_of : ℕ → Float → BesideAnswer
 center_of number s = record { number = 0; at = record { lane = record { 0 = number }; s = s; offset = zero64 } }
 
--- the answer of a search
+-- the answer that C gets
 abbrev pub answer_of : Result LanePosition Refusal → BesideAnswer
 answer_of (Ok at) = record { number = 0; at = at }
 answer_of (Err e) = refusal (number_of e)

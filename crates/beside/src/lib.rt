@@ -5,7 +5,7 @@
 ghost use Rattle.std.specs.Prelude.{◌≡◌, ◌+◌, ◌*◌, ◌<◌, ◌≤◌, length, IfSome, unwrap_or};
 ghost use Rattle.beside.specs.Seated.{Seated};
 ghost use Rattle.beside.specs.Sides.{direction_at, direction_number, side_at, side_number};
-ghost use Rattle.beside.specs.Beside.{answer_of, beyond, toward_larger, nearer_at, next_row, in_section, refusal, beside_rows};
+ghost use Rattle.beside.specs.Beside.{answer_of, beyond, toward_larger, nearer_at, next_row, in_section, beside_rows};
 
 use plan_format::{LaneId, Refusal};
 
@@ -57,7 +57,7 @@ pub struct LanePosition {
     pub offset: f64,
 }
 
-// What `left_of` and `right_of` answer: document 01's number, 0 where there is a lane, and the position, zeros where refused.
+// What C gets for `beside`: document 01's number, 0 where there is a lane, and the position, zeros where refused.
 #[repr(C)]
 #[derive(Clone, Copy)]
 pub struct BesideAnswer {
@@ -71,22 +71,15 @@ impl From<Result<LanePosition, Refusal>> for BesideAnswer {
     fn from(found: Result<LanePosition, Refusal>) -> BesideAnswer {
         match found {
             Ok(at) => BesideAnswer { number: 0, at },
-            Err(refusal) => refused(refusal.number()),
+            Err(refusal) => BesideAnswer {
+                number: refusal.number(),
+                at: LanePosition {
+                    lane: LaneId(0),
+                    s: 0.0,
+                    offset: 0.0,
+                },
+            },
         }
-    }
-}
-
-// An answer without a lane.
-pub fn refused(number: usize) -> BesideAnswer
-    ensures { result ≡ refusal number }
-{
-    BesideAnswer {
-        number,
-        at: LanePosition {
-            lane: LaneId(0),
-            s: 0.0,
-            offset: 0.0,
-        },
     }
 }
 
@@ -199,24 +192,24 @@ impl Seats<'_> {
 }
 
 // The lane beside `at`'s, at the same s and at its center: 0 for the left of its traffic, 1 for the right; a number, as C has it.
-pub fn beside(seats: Seats, at: LanePosition, side: usize) -> BesideAnswer
-    ensures { result ≡ beside_rows seats.entry.lanes.now seats.entry.lane_count seats.entry.fans.now seats.entry.places.now
+pub fn beside(seats: Seats, at: LanePosition, side: usize) -> Result<LanePosition, Refusal>
+    ensures { answer_of result ≡ beside_rows seats.entry.lanes.now seats.entry.lane_count seats.entry.fans.now seats.entry.places.now
         seats.entry.place_count seats.entry.bounds.now at side }
 {
-    BesideAnswer::from(seats.lane_beside(at, Side::from(side)))
+    seats.lane_beside(at, Side::from(side))
 }
 
 // The lane on the left of `at`'s traffic.
-pub fn left_of(seats: Seats, at: LanePosition) -> BesideAnswer
-    ensures { result ≡ beside_rows seats.entry.lanes.now seats.entry.lane_count seats.entry.fans.now seats.entry.places.now
+pub fn left_of(seats: Seats, at: LanePosition) -> Result<LanePosition, Refusal>
+    ensures { answer_of result ≡ beside_rows seats.entry.lanes.now seats.entry.lane_count seats.entry.fans.now seats.entry.places.now
         seats.entry.place_count seats.entry.bounds.now at 0 }
 {
     beside(seats, at, 0)
 }
 
 // The lane on the right of `at`'s traffic.
-pub fn right_of(seats: Seats, at: LanePosition) -> BesideAnswer
-    ensures { result ≡ beside_rows seats.entry.lanes.now seats.entry.lane_count seats.entry.fans.now seats.entry.places.now
+pub fn right_of(seats: Seats, at: LanePosition) -> Result<LanePosition, Refusal>
+    ensures { answer_of result ≡ beside_rows seats.entry.lanes.now seats.entry.lane_count seats.entry.fans.now seats.entry.places.now
         seats.entry.place_count seats.entry.bounds.now at 1 }
 {
     beside(seats, at, 1)
