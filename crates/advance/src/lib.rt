@@ -10,7 +10,7 @@ ghost use Rattle.branches.specs.Tables.{Bounded};
 ghost use Rattle.branches.specs.Held.{tables_of};
 ghost use Rattle.explore.specs.Held.{state_of};
 ghost use Rattle.advance.specs.Advance.{first_branch, first_branches, explored, rows_of, case_row, metre_row};
-ghost use Rattle.advance.specs.Advance.{refusal, advanced_of, answered};
+ghost use Rattle.advance.specs.Advance.{advanced_of, answered};
 ghost use Rattle.advance.specs.Advance.{AnswerOf, advance_rows};
 
 use beside::{Direction, LanePosition};
@@ -34,19 +34,12 @@ impl From<Result<Advanced, Refusal>> for Advanced {
     fn from(found: Result<Advanced, Refusal>) -> Advanced {
         match found {
             Ok(answer) => answer,
-            Err(refusal) => refused(refusal.number()),
+            Err(refusal) => Advanced {
+                number: refusal.number(),
+                keys: 0,
+                positions: 0,
+            },
         }
-    }
-}
-
-// An answer without positions.
-pub fn refused(number: usize) -> Advanced
-    ensures { result ≡ refusal number }
-{
-    Advanced {
-        number,
-        keys: 0,
-        positions: 0,
     }
 }
 
@@ -166,8 +159,9 @@ fn arc_at(plan: &Plan, i: usize, p: usize, s: f64) -> f32
     road::along(points, arcs, plan.stations(i, p), s)
 }
 
-// Every place `distance` metres on from `from`, or why there is none.
-fn places_on(
+// Every place `distance` metres on from `from` along the lanes: a row of case and lane, and one of s, offset and metres short, for each. The lists
+// are written only where all rows fit.
+pub fn advance(
     plan: &Plan,
     bounds: &[f64],
     from: LanePosition,
@@ -194,21 +188,4 @@ fn places_on(
     }
     let arc = arc_at(plan, i, p, from.s);
     search(plan, i, arc, from.offset, distance, rows, positions)
-}
-
-// Every place `distance` metres on from `from` along the lanes: a row of case and lane, and one of s, offset and metres short, for each. The lists
-// are written only where all rows fit.
-pub fn advance(
-    plan: &Plan,
-    bounds: &[f64],
-    from: LanePosition,
-    distance: f64,
-    rows: &mut [usize],
-    positions: &mut [f64],
-) -> Advanced
-    requires { Bounded plan.now.fans.now plan.now.places.now plan.now.place_count bounds.now plan.now.lanes.count }
-    ensures { AnswerOf result rows.new positions.new
-        (advance_rows (tables_of plan.now) bounds.now from distance rows.old positions.old) }
-{
-    Advanced::from(places_on(plan, bounds, from, distance, rows, positions))
 }

@@ -7,7 +7,7 @@ use Rattle.beside.specs.Beside.{in_section}
 use Rattle.branches.specs.Held.{tables_of}
 use Rattle.advance.specs.Advance.{refusal}
 use Rattle.advance.specs.QueryLaws.{query_unknown, query_unplaced, query_off, query_endless, query_answered}
-use Rattle.advance.proofs.places_on.Goals as goal
+use Rattle.advance.proofs.advance.Goals as goal
 
 pub returns-in_default : goal.returns-in_default
 returns-in_default c =
