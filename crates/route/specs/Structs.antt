@@ -14,7 +14,7 @@ tables_in r = route_tables r.lanes.now r.points.now r.cumulative.now r.fans.now 
 abbrev pub graph_in : RouteRows → LaneGraph
 graph_in r = graph_of (tables_in r) r.n
 
--- the answer that a refusal gives
+-- the answer that C gets
 abbrev pub answered : Result RouteAnswer Refusal → RouteAnswer
 answered (Ok answer) = answer
 answered (Err e) = answer_of (refusal (number_of e))

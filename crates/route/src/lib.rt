@@ -12,7 +12,7 @@ ghost use Rattle.sampling.specs.Passes.{PathRows, Sampled};
 ghost use Rattle.sampling.specs.Sampling.{route_tables, sample_route};
 ghost use Rattle.search.specs.Structs.{result_of};
 ghost use Rattle.search.specs.Search.{found};
-ghost use Rattle.route.specs.Route.{Routable, Routes, answer_of, between, fitted, followed, lengths_to, path_of, refusal, routed, suffices};
+ghost use Rattle.route.specs.Route.{Routable, Routes, between, fitted, followed, lengths_to, path_of, routed, suffices};
 ghost use Rattle.route.specs.Structs.{answered, graph_in, tables_in};
 ghost use Rattle.route.specs.Steps.{RowIn};
 
@@ -28,8 +28,8 @@ use route_rows::RouteRows;
 use sampling::{Kept, LinkedLanes};
 use search::{Graph, LanePath};
 
-// Document 01's number, 0 for an answer; how many lanes and points stand in the lists, and the length. All else is zero where refused.
-// C is given this struct, so a refusal is its number here.
+// What C gets for `route`: document 01's number, 0 for an answer; how many lanes and points stand in the lists, and the length. All else is zero
+// where refused.
 #[repr(C)]
 #[derive(Clone, Copy)]
 pub struct RouteAnswer {
@@ -39,15 +39,19 @@ pub struct RouteAnswer {
     pub length: f32,
 }
 
-// An answer without a route.
-pub fn refused(number: usize) -> RouteAnswer
-    ensures { result ≡ answer_of (refusal number) }
-{
-    RouteAnswer {
-        number,
-        lanes: 0,
-        points: 0,
-        length: 0.0,
+impl From<Result<RouteAnswer, Refusal>> for RouteAnswer {
+    ghost from_gives = { λ found answer. answer ≡ answered found };
+
+    fn from(found: Result<RouteAnswer, Refusal>) -> RouteAnswer {
+        match found {
+            Ok(answer) => answer,
+            Err(refusal) => RouteAnswer {
+                number: refusal.number(),
+                lanes: 0,
+                points: 0,
+                length: 0.0,
+            },
+        }
     }
 }
 
@@ -275,12 +279,12 @@ pub fn route(
     links: &[usize],
     chain: &mut [usize],
     waypoints: &mut [f32],
-) -> RouteAnswer
+) -> Result<RouteAnswer, Refusal>
     requires { Routable (route_tables lanes.now points.now cumulative.now fans.now links.now) n }
     ensures { Routes (fitted (length chain.old) (length waypoints.old)
         (routed (route_tables lanes.now points.now cumulative.now fans.now links.now)
         n (lanes_from lanes.now points.now n 0) from to))
-        result chain.old chain.new waypoints.old waypoints.new }
+        (answered result) chain.old chain.new waypoints.old waypoints.new }
 {
     let rows = RouteRows {
         n,
@@ -290,8 +294,5 @@ pub fn route(
         fans,
         links,
     };
-    match rows.route(from, to, chain, waypoints) {
-        Ok(answer) => answer,
-        Err(refusal) => refused(refusal.number()),
-    }
+    rows.route(from, to, chain, waypoints)
 }
