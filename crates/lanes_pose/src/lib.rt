@@ -3,12 +3,13 @@
 
 ghost use Rattle.std.specs.Prelude.{◌≡◌, ◌*◌, take};
 ghost use Rattle.plan_format.specs.Plan.{Decoded};
-ghost use Rattle.pose.specs.Lanes.{pose_of, pose_row};
+ghost use Rattle.pose.specs.Lanes.{pose_of, pose_row, posed_by};
 ghost use Rattle.tables.specs.LaneTables.{Calls, lane_tables};
 ghost use Rattle.lanes_pose.specs.Pose.{PoseFronts};
 
-use plan_format::LaneId;
-use pose::{Lanes, Posed, refuse};
+use geometry::Pose;
+use plan_format::{LaneId, Refusal};
+use pose::Lanes;
 use tables::open;
 
 // The pose from the front of each table, n lanes with m points.
@@ -21,9 +22,9 @@ fn pose_from(
     points: &[f32],
     cumulative: &[f32],
     tangents: &[f32],
-) -> Posed
+) -> Result<Pose, Refusal>
     requires { PoseFronts n m lanes.now points.now cumulative.now tangents.now }
-    ensures { result ≡ pose_row lane.0 s n (take (6 * n) lanes.now) (take (3 * m) points.now)
+    ensures { posed_by result ≡ pose_row lane.0 s n (take (6 * n) lanes.now) (take (3 * m) points.now)
         (take m cumulative.now) (take (3 * m) tangents.now) }
 {
     let rows = Lanes {
@@ -37,6 +38,7 @@ fn pose_from(
 }
 
 // The place and the heading on a lane at the arc length s, which is clamped to the lane: numbers 1 to 8, and 12 for an unknown lane.
+// The tables come one by one, as C lends them.
 pub fn pose(
     file: &[u8],
     lane: LaneId,
@@ -52,8 +54,8 @@ pub fn pose(
     places: &mut [usize],
     cumulative: &mut [f32],
     tangents: &mut [f32],
-) -> Posed
-    ensures { Calls (λ (d : Decoded). pose_of d lane.0 s) 0 file.now result
+) -> Result<Pose, Refusal>
+    ensures { Calls (λ (d : Decoded). pose_of d lane.0 s) 0 file.now (posed_by result)
         (lane_tables lanes.old points.old ends.old fans.old links.old
         sections.old bounds.old stations.old places.old cumulative.old
         tangents.old)
@@ -61,14 +63,11 @@ pub fn pose(
         sections.new bounds.new stations.new places.new cumulative.new
         tangents.new) }
 {
-    let r = open(
+    let counts = open(
         file, 0, lanes, points, ends, fans, links, sections, bounds, stations, places, cumulative,
         tangents,
-    );
-    if r.number != 0 {
-        return refuse(r.number);
-    }
-    let n = r.counts.lanes;
-    let m = r.counts.points;
+    )?;
+    let n = counts.lanes;
+    let m = counts.points;
     pose_from(lane, s, n, m, lanes, points, cumulative, tangents)
 }
