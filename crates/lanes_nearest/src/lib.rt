@@ -4,13 +4,14 @@
 ghost use Rattle.std.specs.Prelude.{◌≡◌, ◌*◌, take};
 ghost use Rattle.plan_format.specs.Plan.{Decoded};
 ghost use Rattle.tables.specs.LaneTables.{Calls, lane_tables};
-ghost use Rattle.nearest.specs.Nearest.{nearest_among, nearest_from};
+ghost use Rattle.nearest.specs.Nearest.{nearest_among, nearest_by, nearest_from};
 ghost use Rattle.network.specs.Tables.{lanes_from};
 ghost use Rattle.calling.specs.Calling.{point};
 ghost use Rattle.lanes_nearest.specs.Nearest.{NearestFronts};
 
 use coords::Point;
-use nearest::{Lanes, NearestAnswer};
+use nearest::{Lanes, NearestLane};
+use plan_format::Refusal;
 use tables::open;
 
 // The nearest lane from the front of each table, n lanes with m points.
@@ -21,9 +22,9 @@ fn nearest_from(
     lanes: &[usize],
     points: &[f32],
     cumulative: &[f32],
-) -> NearestAnswer
+) -> Result<NearestLane, Refusal>
     requires { NearestFronts n m lanes.now points.now cumulative.now }
-    ensures { result ≡ nearest_among (lanes_from (take (6 * n) lanes.now) (take (3 * m) points.now) n 0) p }
+    ensures { nearest_by result ≡ nearest_among (lanes_from (take (6 * n) lanes.now) (take (3 * m) points.now) n 0) p }
 {
     let rows = Lanes {
         rows: &lanes[..6 * n],
@@ -35,6 +36,7 @@ fn nearest_from(
 }
 
 // The driving lane nearest to a point, and the place on it: numbers 1 to 8, 9 where a coordinate is not finite, and 10 where no lane drives.
+// The tables come one by one, as C lends them.
 pub fn nearest_lane(
     file: &[u8],
     x: f32,
@@ -51,8 +53,8 @@ pub fn nearest_lane(
     places: &mut [usize],
     cumulative: &mut [f32],
     tangents: &mut [f32],
-) -> NearestAnswer
-    ensures { Calls (λ (d : Decoded). nearest_from d (point x y z)) 0 file.now result
+) -> Result<NearestLane, Refusal>
+    ensures { Calls (λ (d : Decoded). nearest_from d (point x y z)) 0 file.now (nearest_by result)
         (lane_tables lanes.old points.old ends.old fans.old links.old
         sections.old bounds.old stations.old places.old cumulative.old
         tangents.old)
@@ -60,15 +62,12 @@ pub fn nearest_lane(
         sections.new bounds.new stations.new places.new cumulative.new
         tangents.new) }
 {
-    let read = open(
+    let counts = open(
         file, 0, lanes, points, ends, fans, links, sections, bounds, stations, places, cumulative,
         tangents,
-    );
-    if read.number != 0 {
-        return nearest::refuse(read.number);
-    }
-    let n = read.counts.lanes;
-    let m = read.counts.points;
+    )?;
+    let n = counts.lanes;
+    let m = counts.points;
     let p = Point { x, y, z };
     nearest_from(p, n, m, lanes, points, cumulative)
 }
