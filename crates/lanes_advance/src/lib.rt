@@ -4,14 +4,14 @@
 ghost use Rattle.std.specs.Prelude.{◌≡◌, ◌*◌, take};
 ghost use Rattle.plan_format.specs.Plan.{Decoded};
 ghost use Rattle.tables.specs.LaneTables.{Calls, lane_tables};
-ghost use Rattle.advance.specs.Advance.{advance_rows};
+ghost use Rattle.advance.specs.Advance.{advance_rows, advanced_of};
 ghost use Rattle.advance.specs.InPlan.{advance_of};
 ghost use Rattle.lanes_advance.specs.Advance.{AdvanceFronts, cut, position, with_lists};
 
 use advance::Advanced;
 use beside::LanePosition;
 use branches::{Lanes, Plan};
-use plan_format::{Counts, LaneId};
+use plan_format::{Counts, LaneId, Refusal};
 use tables::open;
 
 // The positions moved on from the front of each table, for a plan with these counts.
@@ -30,10 +30,10 @@ fn advance_from<'a>(
     places: &'a [usize],
     rows: &mut [usize],
     positions: &mut [f64],
-) -> Advanced
+) -> Result<Advanced, Refusal>
     requires { AdvanceFronts counts lanes.now points.now cumulative.now fans.now links.now sections.now bounds.now
         stations.now places.now }
-    ensures { with_lists result rows.new positions.new
+    ensures { with_lists (advanced_of result) rows.new positions.new
         ≡ advance_rows (cut counts lanes.now points.now cumulative.now fans.now
         links.now sections.now stations.now places.now)
         (take (2 * counts.sections) bounds.now) from distance rows.old positions.old }
@@ -63,7 +63,7 @@ fn advance_from<'a>(
 }
 
 // Every place `distance` metres on from a position along the lanes: a row of case and lane, and one of s, offset and metres short, for each.
-// Numbers 1 to 8, 12, 13 and 14.
+// Numbers 1 to 8, 12, 13 and 14. The tables come one by one, as C lends them.
 pub fn advance(
     file: &[u8],
     lane: LaneId,
@@ -83,10 +83,10 @@ pub fn advance(
     tangents: &mut [f32],
     rows: &mut [usize],
     positions: &mut [f64],
-) -> Advanced
+) -> Result<Advanced, Refusal>
     ensures { Calls
         (λ (d : Decoded). advance_of d (position lane s offset) distance rows.old positions.old) 0 file.now
-        (with_lists result rows.new positions.new)
+        (with_lists (advanced_of result) rows.new positions.new)
         (lane_tables lanes.old points.old ends.old fans.old links.old
         sections.old bounds.old stations.old places.old cumulative.old
         tangents.old)
@@ -94,16 +94,13 @@ pub fn advance(
         sections.new bounds.new stations.new places.new cumulative.new
         tangents.new) }
 {
-    let r = open(
+    let counts = open(
         file, 0, lanes, points, ends, fans, links, sections, bounds, stations, places, cumulative,
         tangents,
-    );
-    if r.number != 0 {
-        return advance::refused(r.number);
-    }
+    )?;
     let from = LanePosition { lane, s, offset };
     advance_from(
-        from, distance, r.counts, lanes, points, cumulative, fans, links, sections, bounds,
-        stations, places, rows, positions,
+        from, distance, counts, lanes, points, cumulative, fans, links, sections, bounds, stations,
+        places, rows, positions,
     )
 }
