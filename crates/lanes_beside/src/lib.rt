@@ -4,12 +4,12 @@
 ghost use Rattle.std.specs.Prelude.{◌≡◌, ◌*◌, take};
 ghost use Rattle.plan_format.specs.Plan.{Decoded};
 ghost use Rattle.tables.specs.LaneTables.{Calls, lane_tables};
-ghost use Rattle.beside.specs.Beside.{beside_rows};
+ghost use Rattle.beside.specs.Beside.{answer_of, beside_rows};
 ghost use Rattle.beside.specs.InPlan.{beside_of};
 ghost use Rattle.lanes_beside.specs.Beside.{BesideFronts, centerline};
 
-use beside::{BesideAnswer, LanePosition, Seats};
-use plan_format::{Counts, LaneId};
+use beside::{LanePosition, Seats, Side};
+use plan_format::{Counts, LaneId, Refusal};
 use tables::open;
 
 // The lane beside from the front of each table, for a plan with these counts.
@@ -21,9 +21,9 @@ fn beside_from<'a>(
     fans: &'a [usize],
     places: &'a [usize],
     bounds: &'a [f64],
-) -> BesideAnswer
+) -> Result<LanePosition, Refusal>
     requires { BesideFronts counts lanes.now fans.now places.now bounds.now }
-    ensures { result ≡ beside_rows (take (6 * counts.lanes) lanes.now) counts.lanes
+    ensures { answer_of result ≡ beside_rows (take (6 * counts.lanes) lanes.now) counts.lanes
         (take (5 * counts.lanes) fans.now) (take (3 * counts.places) places.now) counts.places
         (take (2 * counts.sections) bounds.now) at side }
 {
@@ -35,14 +35,14 @@ fn beside_from<'a>(
         place_count: counts.places,
         bounds: &bounds[..2 * counts.sections],
     };
-    if side == 0 {
-        return beside::left_of(seats, at);
+    match Side::from(side) {
+        Side::Left => beside::left_of(seats, at),
+        Side::Right => beside::right_of(seats, at),
     }
-    beside::right_of(seats, at)
 }
 
 // The lane beside a position at s on a lane: side 0 for the left of its traffic, 1 for the right. Numbers 1 to 8, where 5 is also another side;
-// 12 and 15.
+// 12 and 15. The tables come one by one, as C lends them.
 pub fn beside(
     file: &[u8],
     lane: LaneId,
@@ -59,8 +59,8 @@ pub fn beside(
     places: &mut [usize],
     cumulative: &mut [f32],
     tangents: &mut [f32],
-) -> BesideAnswer
-    ensures { Calls (λ (d : Decoded). beside_of d (centerline lane s) side) side file.now result
+) -> Result<LanePosition, Refusal>
+    ensures { Calls (λ (d : Decoded). beside_of d (centerline lane s) side) side file.now (answer_of result)
         (lane_tables lanes.old points.old ends.old fans.old links.old
         sections.old bounds.old stations.old places.old cumulative.old
         tangents.old)
@@ -68,17 +68,14 @@ pub fn beside(
         sections.new bounds.new stations.new places.new cumulative.new
         tangents.new) }
 {
-    let r = open(
+    let counts = open(
         file, side, lanes, points, ends, fans, links, sections, bounds, stations, places,
         cumulative, tangents,
-    );
-    if r.number != 0 {
-        return beside::refused(r.number);
-    }
+    )?;
     let at = LanePosition {
         lane,
         s,
         offset: 0.0,
     };
-    beside_from(at, side, r.counts, lanes, fans, places, bounds)
+    beside_from(at, side, counts, lanes, fans, places, bounds)
 }
