@@ -5,11 +5,12 @@ ghost use Rattle.std.specs.Prelude.{length};
 ghost use Rattle.plan_format.specs.Plan.{Decoded};
 ghost use Rattle.tables.specs.LaneTables.{Calls, lane_tables};
 ghost use Rattle.route.specs.Route.{Routes, fitted, routed};
+ghost use Rattle.route.specs.Structs.{answered};
 ghost use Rattle.calling.specs.Calling.{point};
 ghost use Rattle.lanes_route.specs.Route.{RouteFronts, cut, front_lanes, route_of, lists_of};
 
 use coords::Point;
-use plan_format::Counts;
+use plan_format::{Counts, Refusal};
 use route::RouteAnswer;
 use tables::open;
 
@@ -25,12 +26,12 @@ fn route_from(
     links: &[usize],
     chain: &mut [usize],
     waypoints: &mut [f32],
-) -> RouteAnswer
+) -> Result<RouteAnswer, Refusal>
     requires { RouteFronts counts lanes.now points.now cumulative.now fans.now links.now }
     ensures { Routes (fitted (length chain.old) (length waypoints.old)
         (routed (cut counts lanes.now points.now cumulative.now fans.now links.now)
         counts.lanes (front_lanes counts lanes.now points.now) from to))
-        result chain.old chain.new waypoints.old waypoints.new }
+        (answered result) chain.old chain.new waypoints.old waypoints.new }
 {
     let n = counts.lanes;
     let q = counts.points;
@@ -50,6 +51,7 @@ fn route_from(
 // The route from the point (x, y, z) to the point (u, v, w): the numbers of its lanes in `chain`, x y z of its points in `waypoints`.
 // Numbers 1 to 8, 9 where a coordinate is not finite, 10 where no lane drives, 11 where the goal does not lie ahead on the same lane and no
 // chain leads to it, 14 where the lists do not hold the answer.
+// The tables come one by one, as C lends them.
 pub fn route(
     file: &[u8],
     x: f32,
@@ -71,10 +73,10 @@ pub fn route(
     tangents: &mut [f32],
     chain: &mut [usize],
     waypoints: &mut [f32],
-) -> RouteAnswer
+) -> Result<RouteAnswer, Refusal>
     ensures { Calls
         (λ (d : Decoded). route_of d (point x y z) (point u v w) chain.old waypoints.old) 0 file.now
-        (lists_of result chain.new waypoints.new)
+        (lists_of (answered result) chain.new waypoints.new)
         (lane_tables lanes.old points.old ends.old fans.old links.old
         sections.old bounds.old stations.old places.old cumulative.old
         tangents.old)
@@ -82,16 +84,13 @@ pub fn route(
         sections.new bounds.new stations.new places.new cumulative.new
         tangents.new) }
 {
-    let r = open(
+    let counts = open(
         file, 0, lanes, points, ends, fans, links, sections, bounds, stations, places, cumulative,
         tangents,
-    );
-    if r.number != 0 {
-        return route::refused(r.number);
-    }
+    )?;
     let from = Point { x, y, z };
     let to = Point { x: u, y: v, z: w };
     route_from(
-        from, to, r.counts, lanes, points, cumulative, fans, links, chain, waypoints,
+        from, to, counts, lanes, points, cumulative, fans, links, chain, waypoints,
     )
 }
