@@ -8,6 +8,7 @@ ghost use Rattle.tables.specs.LaneTables.{Calls, lane_tables};
 use plan_format::LaneId;
 use pose::Posed;
 
+// The tables come one by one, as C lends them.
 #[unsafe(no_mangle)]
 pub extern "C" fn kartsodi_pose(
     file: &[u8],
@@ -33,8 +34,8 @@ pub extern "C" fn kartsodi_pose(
         sections.new bounds.new stations.new places.new cumulative.new
         tangents.new) }
 {
-    lanes_pose::pose(
+    Posed::from(lanes_pose::pose(
         file, lane, s, lanes, points, ends, fans, links, sections, bounds, stations, places,
         cumulative, tangents,
-    )
+    ))
 }
