@@ -5,13 +5,16 @@ ghost use Rattle.plan_format.specs.Plan.{Decoded};
 ghost use Rattle.tables.specs.LaneTables.{Calls, lane_tables};
 ghost use Rattle.calling.specs.Calling.{point};
 ghost use Rattle.lanes_route.specs.Route.{lists_of, route_of};
+ghost use Rattle.route.specs.Structs.{answered};
 ghost use Rattle.lanes_promise.specs.Promise.{Demand3};
 
+use plan_format::Refusal;
 use route::RouteAnswer;
 
 // The route from the point (x, y, z) to the point (u, v, w): the numbers of its lanes in `chain`, x y z of its points in `waypoints`.
 // Numbers 1 to 8, 9 where a coordinate is not finite, 10 where no lane drives, 11 where the goal does not lie ahead on the same lane and no
 // chain leads to it, 14 where the lists do not hold the answer.
+// The tables come one by one, as C lends them.
 pub fn route(
     file: &[u8],
     x: f32,
@@ -33,10 +36,10 @@ pub fn route(
     tangents: &mut [f32],
     chain: &mut [usize],
     waypoints: &mut [f32],
-) -> RouteAnswer
+) -> Result<RouteAnswer, Refusal>
     ensures calls { Calls
         (λ (d : Decoded). route_of d (point x y z) (point u v w) chain.old waypoints.old) 0 file.now
-        (lists_of result chain.new waypoints.new)
+        (lists_of (answered result) chain.new waypoints.new)
         (lane_tables lanes.old points.old ends.old fans.old links.old
         sections.old bounds.old stations.old places.old cumulative.old
         tangents.old)
@@ -47,7 +50,7 @@ pub fn route(
         (lane_tables lanes.old points.old ends.old fans.old links.old
         sections.old bounds.old stations.old places.old cumulative.old
         tangents.old)
-        (point x y z) (point u v w) chain.old waypoints.old result chain.new waypoints.new }
+        (point x y z) (point u v w) chain.old waypoints.old (answered result) chain.new waypoints.new }
 {
     lanes_route::route(
         file, x, y, z, u, v, w, lanes, points, ends, fans, links, sections, bounds, stations,
