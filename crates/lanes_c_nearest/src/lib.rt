@@ -8,6 +8,7 @@ ghost use Rattle.calling.specs.Calling.{point};
 
 use nearest::NearestAnswer;
 
+// The tables come one by one, as C lends them.
 #[unsafe(no_mangle)]
 pub extern "C" fn kartsodi_nearest_lane(
     file: &[u8],
@@ -34,8 +35,8 @@ pub extern "C" fn kartsodi_nearest_lane(
         sections.new bounds.new stations.new places.new cumulative.new
         tangents.new) }
 {
-    lanes_nearest::nearest_lane(
+    NearestAnswer::from(lanes_nearest::nearest_lane(
         file, x, y, z, lanes, points, ends, fans, links, sections, bounds, stations, places,
         cumulative, tangents,
-    )
+    ))
 }
