@@ -9,6 +9,7 @@ ghost use Rattle.lanes_advance.specs.Advance.{position, with_lists};
 use advance::Advanced;
 use plan_format::LaneId;
 
+// The tables come one by one, as C lends them.
 #[unsafe(no_mangle)]
 pub extern "C" fn kartsodi_advance(
     file: &[u8],
@@ -40,8 +41,8 @@ pub extern "C" fn kartsodi_advance(
         sections.new bounds.new stations.new places.new cumulative.new
         tangents.new) }
 {
-    lanes_advance::advance(
+    Advanced::from(lanes_advance::advance(
         file, lane, s, offset, distance, lanes, points, ends, fans, links, sections, bounds,
         stations, places, cumulative, tangents, rows, positions,
-    )
+    ))
 }
