@@ -9,6 +9,7 @@ ghost use Rattle.lanes_beside.specs.Beside.{centerline};
 use beside::BesideAnswer;
 use plan_format::LaneId;
 
+// The tables come one by one, as C lends them.
 #[unsafe(no_mangle)]
 pub extern "C" fn kartsodi_beside(
     file: &[u8],
@@ -35,8 +36,8 @@ pub extern "C" fn kartsodi_beside(
         sections.new bounds.new stations.new places.new cumulative.new
         tangents.new) }
 {
-    lanes_beside::beside(
+    BesideAnswer::from(lanes_beside::beside(
         file, lane, s, side, lanes, points, ends, fans, links, sections, bounds, stations, places,
         cumulative, tangents,
-    )
+    ))
 }
