@@ -25,7 +25,7 @@ use network::{LaneIndex, Spans};
 use plan_format::Read;
 use route::RouteAnswer;
 
-// `Nearest` for C: zeros where nothing is found.
+// `Nearest` for C: zeros where nothing is found. `found` is a flag for C, which has no Option.
 #[repr(C)]
 #[derive(Clone, Copy)]
 pub struct Hit {
@@ -36,6 +36,7 @@ pub struct Hit {
     pub projection: Projection,
 }
 
+// The tables come one by one, as C lends them, here and below.
 #[unsafe(no_mangle)]
 pub extern "C" fn kartsodi_open(
     file: &[u8],
@@ -67,10 +68,10 @@ pub extern "C" fn kartsodi_open(
         sections.new bounds.new stations.new places.new cumulative.new
         tangents.new) }
 {
-    tables::open(
+    Read::from(tables::open(
         file, side, lanes, points, ends, fans, links, sections, bounds, stations, places,
         cumulative, tangents,
-    )
+    ))
 }
 
 #[unsafe(no_mangle)]
@@ -161,9 +162,9 @@ pub extern "C" fn kartsodi_route_rows(
         n (lanes_from lanes.now points.now n 0) from to)) result chain.old chain.new waypoints.old
         waypoints.new }
 {
-    route::route(
+    RouteAnswer::from(route::route(
         from, to, lanes, n, points, cumulative, fans, links, chain, waypoints,
-    )
+    ))
 }
 
 #[unsafe(no_mangle)]
@@ -205,7 +206,7 @@ pub extern "C" fn kartsodi_advance_rows<'a>(
         places,
         place_count: m,
     };
-    advance::advance(&plan, bounds, from, distance, rows, positions)
+    Advanced::from(advance::advance(&plan, bounds, from, distance, rows, positions))
 }
 
 #[unsafe(no_mangle)]
@@ -230,5 +231,5 @@ pub extern "C" fn kartsodi_beside_rows<'a>(
         place_count: m,
         bounds,
     };
-    beside::beside(seats, at, side)
+    BesideAnswer::from(beside::beside(seats, at, side))
 }
