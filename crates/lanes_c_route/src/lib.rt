@@ -9,6 +9,7 @@ ghost use Rattle.lanes_promise.specs.Promise.{Demand3};
 
 use route::RouteAnswer;
 
+// The tables come one by one, as C lends them.
 #[unsafe(no_mangle)]
 pub extern "C" fn kartsodi_route(
     file: &[u8],
@@ -47,8 +48,8 @@ pub extern "C" fn kartsodi_route(
         tangents.old)
         (point x y z) (point u v w) chain.old waypoints.old result chain.new waypoints.new }
 {
-    lanes_promise::route(
+    RouteAnswer::from(lanes_promise::route(
         file, x, y, z, u, v, w, lanes, points, ends, fans, links, sections, bounds, stations,
         places, cumulative, tangents, chain, waypoints,
-    )
+    ))
 }
