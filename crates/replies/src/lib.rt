@@ -9,10 +9,13 @@ ghost use Rattle.text.specs.Page.{Adds};
 ghost use Rattle.replies.specs.Lent.{lent, lent_from};
 ghost use Rattle.replies.specs.Printed.{Writes, first_part, next_part, reply_to, room};
 
+use advance::Advanced;
 use arrayvec::ArrayVec;
+use beside::BesideAnswer;
 use plan_format::{LaneId, Query, Read};
 use plan_queries::next_query;
 use plan_scan::RecordStarts;
+use route::RouteAnswer;
 
 // The tables of a call, as long as the limits ask. The C interface takes them one by one.
 #[derive(Drop)]
@@ -66,7 +69,7 @@ fn route_reply<const N: usize>(
     let mut t = Tables::new();
     let mut chain = [0usize; 257];
     let mut waypoints = [0f32; 12288];
-    let a = lanes::route(
+    let answer = lanes::route(
         file,
         x,
         y,
@@ -88,6 +91,7 @@ fn route_reply<const N: usize>(
         &mut chain,
         &mut waypoints,
     );
+    let a = RouteAnswer::from(answer);
     let lanes = &chain[..a.lanes];
     let points = &waypoints[..3 * a.points];
     text::route_text(page, a.number, a.length, lanes, points);
@@ -107,7 +111,7 @@ fn advance_reply<const N: usize>(
     let mut t = Tables::new();
     let mut rows = [0usize; 512];
     let mut metres = [0f64; 768];
-    let a = lanes::advance(
+    let answer = lanes::advance(
         file,
         lane,
         s,
@@ -127,6 +131,7 @@ fn advance_reply<const N: usize>(
         &mut rows,
         &mut metres,
     );
+    let a = Advanced::from(answer);
     let rows = &rows[..2 * a.positions];
     let metres = &metres[..3 * a.positions];
     text::advance_text(page, a.number, a.keys, rows, metres);
@@ -143,7 +148,7 @@ fn beside_reply<const N: usize>(
     ensures { Adds (reply_to file.now (Beside lane s side)) room page.old page.new }
 {
     let mut t = Tables::new();
-    let a = lanes::beside(
+    let answer = lanes::beside(
         file,
         lane,
         s,
@@ -160,6 +165,7 @@ fn beside_reply<const N: usize>(
         &mut t.cumulative,
         &mut t.tangents,
     );
+    let a = BesideAnswer::from(answer);
     let at = a.at;
     let id = at.lane;
     text::beside_text(page, a.number, id.0, at.s, at.offset);
