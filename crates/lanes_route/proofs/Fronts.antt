@@ -1,25 +1,18 @@
 -- The tables of an accepted file: their fronts are the rows of its plan, so that a route from them is the plan's.
-use Rattle.std.specs.Prelude.{List, refl, ◌≡◌, ℕ, ◌*◌, ◌≤◌, Float, length, take}
+use Rattle.std.specs.Prelude.{List, refl, ◌≡◌, ℕ, Float, length}
 use Rattle.std.proofs.Common.{ap, ◌∙◌}
 use Rattle.coords.specs.declared.Point.{Point}
-use Rattle.geometry.specs.Over.{over}
-use Rattle.network.specs.Lanes.{Lane}
-use Rattle.network.specs.Tables.{lanes_from}
-use Rattle.plan.specs.Accepted.{Accepted}
 use Rattle.plan_format.specs.Laws.{Bytes}
-use Rattle.plan_format.specs.Plan.{Decoded, Plan, accepted, refused}
+use Rattle.plan_format.specs.Plan.{Decoded}
 use Rattle.plan_format.specs.Reading.{opened}
-use Rattle.plan_format.specs.Tables.{plan_rows}
 use Rattle.plan_format.specs.declared.Counts.{Counts}
 use Rattle.plan_format.specs.declared.Read.{Read}
-use Rattle.route.specs.InPlan.{routable, route_is}
-use Rattle.route.specs.Route.{Routable, Routed, Routes, answer_of, fitted, refusal, route_in, routed, tables_of}
+use Rattle.route.specs.Route.{Routed, Routes, fitted, routed}
 use Rattle.route.specs.declared.RouteAnswer.{RouteAnswer}
-use Rattle.sampling.specs.Sampling.{RouteTables, route_tables}
-use Rattle.tables.specs.LaneTables.{Calls, LaneTables, Opens, lane_rows, too_short}
+use Rattle.tables.specs.LaneTables.{Calls, LaneTables, Opens, too_short}
 use Rattle.tables.specs.Opening.{cumulative_now, fans_now, found, lanes_now, links_now, points_now}
 use Rattle.calling.specs.Calling.{calls_accepted}
-use Rattle.lanes_route.specs.Route.{RouteLists, lists_of, listed, route_of, as_lists, cut, front_lanes, RouteFronts, routable_of, route_of_law}
+use Rattle.lanes_route.specs.Route.{lists_of, listed, route_of, as_lists, cut, front_lanes, RouteFronts, routable_of, route_of_law}
 
 -- the tables of an accepted file
 module _ (side : ℕ) (f : List ℕ) (B : Bytes f) (r : Read) (t t' : LaneTables) (O : Opens (opened (too_short t) side f) r t t')

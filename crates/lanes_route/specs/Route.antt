@@ -1,24 +1,18 @@
 -- The route: what a call answers with its lists, and that from the tables after opening it is the plan's.
-use Rattle.std.specs.Prelude.{List, refl, ◌≡◌, ℕ, ◌*◌, ◌≤◌, Float, length, take}
-use Rattle.std.proofs.Common.{ap, ◌∙◌}
+use Rattle.std.specs.Prelude.{List, ◌≡◌, ℕ, ◌*◌, ◌≤◌, Float, length, take}
 use Rattle.coords.specs.declared.Point.{Point}
 use Rattle.geometry.specs.Over.{over}
 use Rattle.network.specs.Lanes.{Lane}
 use Rattle.network.specs.Tables.{lanes_from}
 use Rattle.plan.specs.Accepted.{Accepted}
-use Rattle.plan_format.specs.Laws.{Bytes}
 use Rattle.plan_format.specs.Plan.{Decoded, Plan, accepted, refused}
-use Rattle.plan_format.specs.Reading.{opened}
 use Rattle.plan_format.specs.Tables.{plan_rows}
 use Rattle.plan_format.specs.declared.Counts.{Counts}
-use Rattle.plan_format.specs.declared.Read.{Read}
 use Rattle.route.specs.InPlan.{routable, route_is}
 use Rattle.route.specs.Route.{Routable, Routed, Routes, answer_of, fitted, refusal, route_in, routed, tables_of}
 use Rattle.route.specs.declared.RouteAnswer.{RouteAnswer}
 use Rattle.sampling.specs.Sampling.{RouteTables, route_tables}
-use Rattle.tables.specs.LaneTables.{Calls, LaneTables, Opens, lane_rows, too_short}
-use Rattle.tables.specs.Opening.{cumulative_now, fans_now, found, lanes_now, links_now, points_now}
-use Rattle.calling.specs.Calling.{calls_accepted}
+use Rattle.tables.specs.LaneTables.{lane_rows}
 
 -- what a call answers, and what it leaves in the two lists lent for it
 pub record RouteLists : Type 0 where

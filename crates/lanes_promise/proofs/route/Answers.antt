@@ -1,5 +1,4 @@
 -- What `lanes_route::route` ensures is the first clause, and `route_kept` makes the second of it.
-use borrow.Author.Rules.{rules}
 use native.Mathlib.Omega.{arith}
 use Rattle.calling.specs.Calling.{point}
 use Rattle.plan_format.specs.Laws.{Bytes}

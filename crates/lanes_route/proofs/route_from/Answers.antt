@@ -1,5 +1,4 @@
 -- The front of each table is cut out, and is what `route` needs.
-use borrow.Author.Rules.{rules}
 use native.Mathlib.Omega.{arith}
 use mathlib.Core.Path.{sym}
 use lib.Seq.{length-take-le}

@@ -1,7 +1,6 @@
 -- Each arm knows which variant the answer is.
 use lib.Ieee.{of_bits}
 use mathlib.Core.Path.{sym, ap, ◌∙◌}
-use borrow.Author.Rules.{rules}
 use Rattle.queries_c.specs.Hit.{as_hit}
 use Rattle.queries_c.proofs.kartsodi_nearest_indexed.Goals as goal
 
