@@ -9,8 +9,9 @@ ghost use Rattle.beside.specs.Sides.{direction_at};
 ghost use Rattle.geometry.specs.Partition.{Rising};
 ghost use Rattle.geometry.specs.Polyline.{Line};
 ghost use Rattle.road.specs.Along.{Stationed};
-ghost use Rattle.rows.specs.Rows.{arcs_of, direction_of, end_point, lane_number, length_of, place_of, placed_section, points_of, stations_of};
-ghost use Rattle.branches.specs.Tables.{AllLaid, Tabled, led_to, tables};
+ghost use Rattle.rows.specs.Rows.{arcs_of, direction_of, end_point, end_station, first_link, lane_number, length_of, place_of, placed_section};
+ghost use Rattle.rows.specs.Rows.{points_of, predecessors, stations_of, successors};
+ghost use Rattle.branches.specs.Tables.{AllLaid, Laid, Tabled, led_to, tables};
 ghost use Rattle.branches.specs.Branches.{millimetres, side_of, room_of, exit_of, head_of, tail_of, away_from, at_end, is_next, up_on};
 ghost use Rattle.branches.specs.Branches.{branch_onto};
 ghost use Rattle.branches.specs.Branches.{key_of, link_end, link_count, same_key};
@@ -85,6 +86,122 @@ pub fn lane_length(lanes: &[usize], cumulative: &[f32], i: usize) -> f32
     geometry::length(&cumulative[first..end])
 }
 
+// The functions up to `Lanes` ask only of the lanes, or the place, at hand: so they stand beside the methods, which ask of all.
+
+// The points of lane i and the arc lengths at them.
+pub fn lane_line<'a>(
+    lanes: &[usize],
+    points: &'a [f32],
+    cumulative: &'a [f32],
+    i: usize,
+) -> (&'a [f32], &'a [f32])
+    requires { Laid lanes.now points.now cumulative.now i }
+    ensures points { result.0.now ≡ points_of lanes.now points.now i }
+    ensures arcs { result.1.now ≡ arcs_of lanes.now cumulative.now i }
+{
+    let first = lanes[6 * i + 4];
+    let end = first + lanes[6 * i + 5];
+    (&points[3 * first..3 * end], &cumulative[first..end])
+}
+
+// The place at the end of lane i that a branch moving `up` it leaves by.
+pub fn exit_point(lanes: &[usize], points: &[f32], cumulative: &[f32], i: usize, up: bool) -> Point
+    requires { Laid lanes.now points.now cumulative.now i }
+    ensures { result ≡ exit_of lanes.now points.now cumulative.now i up }
+{
+    let (line, arcs) = lane_line(lanes, points, cumulative, i);
+    let s = if up { geometry::length(arcs) } else { 0.0 };
+    geometry::point_at(line, arcs, s)
+}
+
+// The first point of lane i.
+fn head(lanes: &[usize], points: &[f32], cumulative: &[f32], i: usize) -> Point
+    requires { Laid lanes.now points.now cumulative.now i }
+    ensures { result ≡ head_of lanes.now points.now i }
+{
+    let (line, _) = lane_line(lanes, points, cumulative, i);
+    geometry::vertex(line, 0)
+}
+
+// The last point of lane i.
+fn tail(lanes: &[usize], points: &[f32], cumulative: &[f32], i: usize) -> Point
+    requires { Laid lanes.now points.now cumulative.now i }
+    ensures { result ≡ tail_of lanes.now points.now cumulative.now i }
+{
+    let (line, arcs) = lane_line(lanes, points, cumulative, i);
+    geometry::vertex(line, arcs.len() - 1)
+}
+
+// The squared distance from p to the nearest place on lane i.
+fn away(lanes: &[usize], points: &[f32], cumulative: &[f32], i: usize, p: Point) -> f32
+    requires { Laid lanes.now points.now cumulative.now i }
+    ensures { result ≡ away_from lanes.now points.now cumulative.now i p }
+{
+    let (line, arcs) = lane_line(lanes, points, cumulative, i);
+    let q = geometry::project(line, arcs, p).point;
+    (q - p).length_squared()
+}
+
+// Whether the lane `next` joins lane i at the end that a branch moving `up` it leaves by, rather than at the other.
+pub fn at_end(
+    lanes: &[usize],
+    points: &[f32],
+    cumulative: &[f32],
+    i: usize,
+    next: usize,
+    up: bool,
+) -> bool
+    requires { Laid lanes.now points.now cumulative.now i × Laid lanes.now points.now cumulative.now next }
+    ensures { result ≡ at_end lanes.now points.now cumulative.now i next up }
+{
+    let head = head(lanes, points, cumulative, i);
+    let tail = tail(lanes, points, cumulative, i);
+    let from_head = away(lanes, points, cumulative, next, head);
+    let from_tail = away(lanes, points, cumulative, next, tail);
+    if up {
+        return from_tail <= from_head;
+    }
+    from_head <= from_tail
+}
+
+// The stations of place p's section.
+pub fn place_stations<'a>(
+    sections: &[usize],
+    stations: &'a [f64],
+    places: &[usize],
+    p: usize,
+) -> &'a [f64]
+    requires { (3 * p + 2 < length places.now) × (4 * placed_section places.now p + 3 < length sections.now)
+        × (end_station sections.now (placed_section places.now p) ≤ length stations.now) }
+    ensures { result.now ≡ stations_of sections.now stations.now (placed_section places.now p) }
+{
+    let j = places[3 * p + 1];
+    let from = sections[4 * j + 2];
+    let to = from + sections[4 * j + 3];
+    &stations[from..to]
+}
+
+// The row after the links that are followed from lane i: successors ahead, predecessors back.
+pub fn link_end(fans: &[usize], ahead: bool, i: usize) -> usize
+    requires { (5 * i + 4 < length fans.now)
+        × (first_link fans.now i + successors fans.now i + predecessors fans.now i < 4294967296) }
+    ensures { result ≡ link_end fans.now ahead i }
+{
+    let after = fans[5 * i] + fans[5 * i + 1];
+    if ahead {
+        return after;
+    }
+    after + fans[5 * i + 2]
+}
+
+// How many they are.
+pub fn link_count(fans: &[usize], ahead: bool, i: usize) -> usize
+    requires { 5 * i + 4 < length fans.now }
+    ensures { result ≡ link_count fans.now ahead i }
+{
+    fans[if ahead { 5 * i + 1 } else { 5 * i + 2 }]
+}
+
 // The lanes of an accepted plan: their rows, the points of their lines and the arc length at each.
 #[derive(Clone, Copy)]
 pub struct Lanes<'a> {
@@ -97,7 +214,7 @@ pub struct Lanes<'a> {
 
 impl<'a> Lanes<'a> {
     // The number of lane i.
-    pub fn number(&self, i: usize) -> usize
+    fn number(&self, i: usize) -> usize
         requires { i < self.now.count }
         ensures { result ≡ lane_number self.now.rows.now i }
     {
@@ -122,13 +239,7 @@ impl<'a> Lanes<'a> {
         ensures line { Line result.0.now result.1.now }
         ensures rising { Rising result.1.now }
     {
-        let rows = self.rows;
-        let first = rows[6 * i + 4];
-        let end = first + rows[6 * i + 5];
-        (
-            &self.points[3 * first..3 * end],
-            &self.cumulative[first..end],
-        )
+        lane_line(self.rows, self.points, self.cumulative, i)
     }
 
     // Its length.
@@ -144,37 +255,7 @@ impl<'a> Lanes<'a> {
         requires { i < self.now.count }
         ensures { result ≡ exit_of self.now.rows.now self.now.points.now self.now.cumulative.now i up }
     {
-        let (points, arcs) = self.line(i);
-        let s = if up { geometry::length(arcs) } else { 0.0 };
-        geometry::point_at(points, arcs, s)
-    }
-
-    // The first point of lane i.
-    fn head(&self, i: usize) -> Point
-        requires { i < self.now.count }
-        ensures { result ≡ head_of self.now.rows.now self.now.points.now i }
-    {
-        let (points, _) = self.line(i);
-        geometry::vertex(points, 0)
-    }
-
-    // The last point of lane i.
-    fn tail(&self, i: usize) -> Point
-        requires { i < self.now.count }
-        ensures { result ≡ tail_of self.now.rows.now self.now.points.now self.now.cumulative.now i }
-    {
-        let (points, arcs) = self.line(i);
-        geometry::vertex(points, arcs.len() - 1)
-    }
-
-    // The squared distance from p to the nearest place on lane i.
-    fn away(&self, i: usize, p: Point) -> f32
-        requires { i < self.now.count }
-        ensures { result ≡ away_from self.now.rows.now self.now.points.now self.now.cumulative.now i p }
-    {
-        let (points, arcs) = self.line(i);
-        let q = geometry::project(points, arcs, p).point;
-        (q - p).length_squared()
+        exit_point(self.rows, self.points, self.cumulative, i, up)
     }
 
     // Whether the lane `next` joins lane i at the end that a branch moving `up` it leaves by, rather than at the other.
@@ -182,12 +263,7 @@ impl<'a> Lanes<'a> {
         requires { (i < self.now.count) × (next < self.now.count) }
         ensures { result ≡ at_end self.now.rows.now self.now.points.now self.now.cumulative.now i next up }
     {
-        let from_head = self.away(next, self.head(i));
-        let from_tail = self.away(next, self.tail(i));
-        if up {
-            return from_tail <= from_head;
-        }
-        from_head <= from_tail
+        at_end(self.rows, self.points, self.cumulative, i, next, up)
     }
 
     // Whether a branch on lane i goes on to the lane in row `next`.
@@ -212,7 +288,11 @@ impl<'a> Lanes<'a> {
         match self.direction(i) {
             Direction::Forward => ahead,
             Direction::Backward => !ahead,
-            _ => exit.distance_to(self.head(i)) <= exit.distance_to(self.tail(i)),
+            _ => {
+                let head = head(self.rows, self.points, self.cumulative, i);
+                let tail = tail(self.rows, self.points, self.cumulative, i);
+                exit.distance_to(head) <= exit.distance_to(tail)
+            }
         }
     }
 
@@ -375,11 +455,7 @@ impl<'a> Plan<'a> {
         ensures stationed { Stationed (points_of self.now.lanes.rows.now self.now.lanes.points.now i)
             (arcs_of self.now.lanes.rows.now self.now.lanes.cumulative.now i) result.now }
     {
-        let sections = self.sections;
-        let j = self.section(i, p);
-        let from = sections[4 * j + 2];
-        let to = from + sections[4 * j + 3];
-        &self.stations[from..to]
+        place_stations(self.sections, self.stations, self.places, p)
     }
 
     // The row after the links that are followed from lane i: successors ahead, predecessors back.
@@ -387,12 +463,7 @@ impl<'a> Plan<'a> {
         requires { i < self.now.lanes.count }
         ensures { result ≡ link_end self.now.fans.now ahead i }
     {
-        let fans = self.fans;
-        let after = fans[5 * i] + fans[5 * i + 1];
-        if ahead {
-            return after;
-        }
-        after + fans[5 * i + 2]
+        link_end(self.fans, ahead, i)
     }
 
     // How many they are.
@@ -400,7 +471,6 @@ impl<'a> Plan<'a> {
         requires { i < self.now.lanes.count }
         ensures { result ≡ link_count self.now.fans.now ahead i }
     {
-        let fans = self.fans;
-        fans[if ahead { 5 * i + 1 } else { 5 * i + 2 }]
+        link_count(self.fans, ahead, i)
     }
 }

@@ -19,8 +19,8 @@ returns-in-Backward c =
 pub returns-in_default : goal.returns-in_default
 returns-in_default c =
     let s = c.args.self.now in
-    let h = c.distance_to.ensures ∙ ap (distance_to c.args.exit) c.head.ensures in
-    let t = c.distance_to-in_default.ensures ∙ ap (distance_to c.args.exit) c.tail.ensures in
+    let h = c.distance_to.ensures ∙ ap (distance_to c.args.exit) c.head-head.ensures in
+    let t = c.distance_to-in_default.ensures ∙ ap (distance_to c.args.exit) c.tail-tail.ensures in
     rw (h, t)
     (up_both s.rows.now s.points.now s.cumulative.now c.args.ahead c.args.exit c.args.i
     (λ e. c.in_default.not-Forward (c.direction.ensures ∙ ap direction_at e))
