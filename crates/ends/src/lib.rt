@@ -7,7 +7,8 @@ ghost use Rattle.std.specs.List.{list_any};
 ghost use Rattle.std.specs.Float.{nan};
 ghost use Rattle.arrayvec.specs.ArrayVec.{array_vec_len};
 ghost use Rattle.rows.specs.Rows.{place_of};
-ghost use Rattle.ends.specs.Ends.{case_of, position_of, short_of, placing_of, end_arc, end_position, end_of, give, place_in, same_placing};
+ghost use Rattle.branches.specs.Tables.{Ending, Laid};
+ghost use Rattle.ends.specs.Ends.{case_of, position_of, short_of, placing_of, end_arc, end_position, end_of, give, place, place_in, same_placing};
 
 use arrayvec::ArrayVec;
 use beside::LanePosition;
@@ -118,16 +119,29 @@ fn end_arc(b: Branch, room: f64) -> f32
     b.arc - moved
 }
 
-// The lane position where a branch ends, on a lane with the place p.
-fn end_position(plan: &Plan, p: usize, ahead: bool, b: Branch, room: f64) -> LanePosition
-    requires { (b.lane < plan.now.lanes.count) × (p ≡ place_of plan.now.fans.now b.lane) × (p < plan.now.place_count) }
-    ensures { result ≡ end_position plan.now.lanes.rows.now plan.now.lanes.points.now plan.now.fans.now plan.now.sections.now
-        plan.now.stations.now plan.now.places.now ahead b room }
+// The lane position where a branch ends, on a lane with a place.
+fn end_position(
+    lanes: &[usize],
+    points: &[f32],
+    cumulative: &[f32],
+    fans: &[usize],
+    sections: &[usize],
+    stations: &[f64],
+    places: &[usize],
+    ahead: bool,
+    b: Branch,
+    room: f64,
+) -> LanePosition
+    requires { Laid lanes.now points.now cumulative.now b.lane × (5 * b.lane + 4 < length fans.now)
+        × Ending lanes.now points.now cumulative.now sections.now stations.now places.now b.lane (place_of fans.now b.lane) }
+    ensures { result ≡ end_position lanes.now points.now fans.now sections.now stations.now places.now ahead b room }
 {
-    let (points, arcs) = plan.lanes.line(b.lane);
+    let i = b.lane;
+    let (line, arcs) = branches::lane_line(lanes, points, cumulative, i);
+    let held = branches::place_stations(sections, stations, places, fans[5 * i + 4]);
     LanePosition {
-        lane: LaneId(plan.lanes.number(b.lane)),
-        s: road::station_at(points, arcs, plan.stations(b.lane, p), end_arc(b, room)),
+        lane: LaneId(lanes[6 * i]),
+        s: road::station_at(line, arcs, held, end_arc(b, room)),
         offset: b.left * branches::side(ahead, b.up),
     }
 }
@@ -189,16 +203,57 @@ impl Found {
         self.out.push(a);
     }
 
+    // The end of a branch is given where its lane has one of the m places. It asks of that lane alone: so it stands beside `place`.
+    pub fn place_on(
+        &mut self,
+        lanes: &[usize],
+        points: &[f32],
+        cumulative: &[f32],
+        fans: &[usize],
+        sections: &[usize],
+        stations: &[f64],
+        places: &[usize],
+        m: usize,
+        ahead: bool,
+        b: Branch,
+        room: f64,
+    )
+        requires { Laid lanes.now points.now cumulative.now b.lane × (5 * b.lane + 4 < length fans.now)
+            × (place_of fans.now b.lane < m → Ending lanes.now points.now cumulative.now sections.now stations.now places.now b.lane
+            (place_of fans.now b.lane))
+            × (array_vec_len self.old.out < 1026) }
+        ensures given { found_of self.new ≡ place lanes.now points.now fans.now sections.now stations.now places.now m ahead b room
+            (found_of self.old) }
+        ensures one { array_vec_len self.new.out ≤ array_vec_len self.old.out + 1 }
+    {
+        if m <= fans[5 * b.lane + 4] {
+            return;
+        }
+        let at = end_position(
+            lanes, points, cumulative, fans, sections, stations, places, ahead, b, room,
+        );
+        self.give(end_of(b.remaining, room, at));
+    }
+
     // The end of a branch is given where its lane has a place.
     pub fn place(&mut self, plan: &Plan, ahead: bool, b: Branch, room: f64)
         requires { (b.lane < plan.now.lanes.count) × (array_vec_len self.old.out < 1026) }
         ensures given { found_of self.new ≡ place_in (tables_of plan.now) ahead b room (found_of self.old) }
         ensures one { array_vec_len self.new.out ≤ array_vec_len self.old.out + 1 }
     {
-        let Some(p) = plan.place(b.lane) else {
-            return;
-        };
-        let at = end_position(plan, p, ahead, b, room);
-        self.give(end_of(b.remaining, room, at));
+        let lanes = plan.lanes;
+        self.place_on(
+            lanes.rows,
+            lanes.points,
+            lanes.cumulative,
+            plan.fans,
+            plan.sections,
+            plan.stations,
+            plan.places,
+            plan.place_count,
+            ahead,
+            b,
+            room,
+        );
     }
 }

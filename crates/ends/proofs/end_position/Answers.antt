@@ -4,5 +4,4 @@ use Rattle.ends.proofs.end_position.Goals as goal
 
 pub returns : goal.returns
 unfolding end_position
-returns c =
-    rw (c.number.ensures, c.station_at.ensures, c.line.ensures.points, c.stations.ensures.stations, c.end_arc.ensures, c.side.ensures, c.requires.1)
+returns c = rw (c.station_at.ensures, c.lane_line.ensures.points, c.place_stations-held.ensures, c.end_arc.ensures, c.side.ensures)
