@@ -9,7 +9,7 @@ ghost use Rattle.beside.specs.Beside.{answer_of, beyond, toward_larger, nearer_a
 
 use plan_format::{LaneId, Refusal};
 
-// Which way the traffic of a lane runs along its points. No accepted plan has another.
+// Which way the traffic of a lane runs along its points. No accepted plan has `Other`.
 #[derive(Clone, Copy, PartialEq, Eq)]
 pub enum Direction {
     Forward,
