@@ -73,7 +73,8 @@ impl<'a> Lanes<'a> {
     // The pose on a lane at the arc length s, which is clamped to the lane; 12 for a lane that is not among the rows. A NaN s is not clamped:
     // it lies on the first segment and gives a NaN position with a zero heading, or that segment's start where it is at most 1e-6 long.
     pub fn pose(&self, lane: LaneId, s: f32) -> Result<Pose, Refusal>
-        ensures { posed_by result ≡ pose_row lane.0 s self.now.count self.now.rows.now self.now.points.now self.now.cumulative.now self.now.tangents.now }
+        ensures { posed_by result ≡ pose_row lane.0 s self.now.count self.now.rows.now self.now.points.now self.now.cumulative.now
+            self.now.tangents.now }
     {
         match find_lane(lane, self.rows, self.count) {
             None => Err(Refusal::OffTheLanes),

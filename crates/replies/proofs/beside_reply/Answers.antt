@@ -6,4 +6,5 @@ use Rattle.replies.proofs.beside_reply.Goals as goal
 pub returns : goal.returns
 returns g c =
     let a = c.args in
-    beside_replied a.file.now a.lane a.s a.side c.from-a.result (from_lent c.new-t.ensures (rw (← c.from-a.ensures) at c.beside-answer.ensures)) c.beside_text.ensures
+    let calls = rw (← c.from-a.ensures) at c.beside-answer.ensures in
+    beside_replied a.file.now a.lane a.s a.side c.from-a.result (from_lent c.new-t.ensures calls) c.beside_text.ensures
