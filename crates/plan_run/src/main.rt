@@ -9,7 +9,8 @@ use arrayvec::ArrayVec;
 use std::io;
 use std::io::{Read, Write};
 
-// Reads to the end of the input, or until `file` is full: how many bytes came. A read that fails ends it, since what came before may look like a plan.
+// Reads to the end of the input, or until `file` is full: how many bytes came. A read that fails ends it, since what came before may look like a
+// plan.
 fn read_file<R: Read>(from: &mut R, file: &mut [u8]) -> io::Result<usize>
     ensures read { IfOk result (λ n. (n ≤ length file.new) × Consumes (R.remaining from.old) (R.remaining from.new) (take n file.new)
         × (n < length file.new → IsAtEnd (R.remaining from.new))) }
