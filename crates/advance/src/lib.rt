@@ -19,7 +19,8 @@ use ends::{Advance, Found};
 use explore::State;
 use plan_format::Refusal;
 
-// What `advance` answers: document 01's number, how many keys were entered, and how many positions stand in the lists.
+// What `advance` answers: document 01's number, how many keys were entered, and how many positions stand in the lists. It is what C gets; an `Ok`
+// is this struct with number 0, since one of its own would repeat two of the three fields.
 #[repr(C)]
 #[derive(Clone, Copy)]
 pub struct Advanced {
@@ -174,6 +175,7 @@ pub fn advance(
         (advance_rows (tables_of plan.now) bounds.now from distance rows.old positions.old) }
 {
     let lanes = plan.lanes;
+    // `let .. else`: after `.ok_or(..)?` the goals have weaker facts
     let Some(i) = plan_find::find_lane(from.lane, lanes.rows, lanes.count) else {
         return Err(Refusal::OffTheLanes);
     };

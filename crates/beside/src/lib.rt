@@ -199,18 +199,18 @@ pub fn beside(seats: Seats, at: LanePosition, side: usize) -> Result<LanePositio
     seats.lane_beside(at, Side::from(side))
 }
 
-// The lane on the left of `at`'s traffic.
+// The lane on the left of `at`'s traffic, by the Rust's name.
 pub fn left_of(seats: Seats, at: LanePosition) -> Result<LanePosition, Refusal>
     ensures { answer_of result ≡ beside_rows seats.entry.lanes.now seats.entry.lane_count seats.entry.fans.now seats.entry.places.now
         seats.entry.place_count seats.entry.bounds.now at 0 }
 {
-    beside(seats, at, 0)
+    seats.lane_beside(at, Side::Left)
 }
 
-// The lane on the right of `at`'s traffic.
+// The lane on the right of `at`'s traffic, by the Rust's name.
 pub fn right_of(seats: Seats, at: LanePosition) -> Result<LanePosition, Refusal>
     ensures { answer_of result ≡ beside_rows seats.entry.lanes.now seats.entry.lane_count seats.entry.fans.now seats.entry.places.now
         seats.entry.place_count seats.entry.bounds.now at 1 }
 {
-    beside(seats, at, 1)
+    seats.lane_beside(at, Side::Right)
 }

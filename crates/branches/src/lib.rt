@@ -326,7 +326,7 @@ impl<'a> Lanes<'a> {
 }
 
 // The branches in flight and the keys entered, the newest last, and whether one more key would have been. Each key entered gave one branch, and at
-// most two were there first.
+// most two were there first. `full` is a state of the walk, as in the definition: no value stands beside it.
 #[derive(Drop)]
 pub struct Front {
     pub todo: ArrayVec<Branch, 1026>,

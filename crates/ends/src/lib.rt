@@ -119,7 +119,7 @@ fn end_arc(b: Branch, room: f64) -> f32
     b.arc - moved
 }
 
-// The lane position where a branch ends, on a lane with a place.
+// The lane position where a branch ends, on a lane with a place. It asks of one lane, so it takes the tables and no `Plan`.
 fn end_position(
     lanes: &[usize],
     points: &[f32],
@@ -159,7 +159,7 @@ fn end_of(remaining: f64, room: f64, at: LanePosition) -> Advance
     Advance::Reached(at)
 }
 
-// The places given, the newest last, and by what each is told apart.
+// The places given, the newest last, and by what each is told apart: two lists, since `holds` reads `placed` alone.
 #[derive(Drop)]
 pub struct Found {
     pub placed: ArrayVec<Placing, 1026>,

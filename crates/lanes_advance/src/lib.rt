@@ -15,6 +15,7 @@ use plan_format::{Counts, LaneId, Refusal};
 use tables::open;
 
 // The positions moved on from the front of each table, for a plan with these counts.
+// The tables one by one, as the call has them: a struct here would be made for one use.
 fn advance_from<'a>(
     from: LanePosition,
     distance: f64,

@@ -13,6 +13,7 @@ use pose::Lanes;
 use tables::open;
 
 // The pose from the front of each table, n lanes with m points.
+// The tables one by one, as the call has them: a struct here would be made for one use.
 fn pose_from(
     lane: LaneId,
     s: f32,

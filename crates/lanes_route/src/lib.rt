@@ -15,6 +15,7 @@ use route::RouteAnswer;
 use tables::open;
 
 // The route from the front of each table, for a plan with these counts.
+// The tables one by one, as the call has them: a struct here would be made for one use.
 fn route_from(
     from: Point,
     to: Point,

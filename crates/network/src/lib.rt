@@ -24,7 +24,7 @@ use grid::{Aabb, Cell, Grid, Run};
 // Segments of a lane's centerline per indexed span.
 const SPAN_SEGMENTS: usize = 4;
 
-// Which lane types drive: Driving alone.
+// Which lane types drive: Driving alone. A constant table, by a rule of the project.
 pub const DRIVES: [bool; 28] = [
     false, true, false, false, false, false, false, false, false, false, false, false, false,
     false, false, false, false, false, false, false, false, false, false, false, false, false,
@@ -32,7 +32,7 @@ pub const DRIVES: [bool; 28] = [
 ];
 
 // An index of spans: how many there are, and the grid over them. `spans` (its lane's row, first segment, segment after the last), `boxes`
-// (least and greatest x, least and greatest y) and `ranges` (first and last column, first and last row) hold the rest.
+// (least and greatest x, least and greatest y) and `ranges` (first and last column, first and last row) hold the rest: C lends them one by one.
 #[repr(C)]
 #[derive(Clone, Copy)]
 pub struct LaneIndex {

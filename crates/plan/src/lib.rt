@@ -42,7 +42,8 @@ fn check_whole(
     records.whole(side, index)
 }
 
-// What a file is refused for, numbers 2 to 8, or its counts. `side` is the side that a caller gives, 0 where none does.
+// What a file is refused for, numbers 2 to 8, or its counts. `side` is the side that a caller gives, a number
+// as C gives it, 0 where none does.
 // For an accepted file `starts` then has where its records start, `index` the row of each lane number.
 pub fn check(
     file: &[u8],
@@ -108,7 +109,8 @@ fn are_short(tables: &[(usize, usize)]) -> bool
     tables.iter().any(|(length, limit)| length < limit)
 }
 
-// Reads the plan of a file into the lent tables: numbers 1 to 8, or the counts. Nothing is written of a file that is refused.
+// Reads the plan of a file into the lent tables, which come one by one, as C lends them: numbers 1 to 8, or the counts. Nothing is written of a file
+// that is refused.
 pub fn read_plan(
     file: &[u8],
     side: usize,

@@ -100,7 +100,7 @@ pub struct Counts {
     pub places: usize,
 }
 
-// What reading a plan answers: document 01's number, 0 for a plan, and the counts, 0 where refused.
+// What C gets for reading a plan: document 01's number, 0 for a plan, and the counts, 0 where refused.
 #[repr(C)]
 #[derive(Clone, Copy)]
 pub struct Read {

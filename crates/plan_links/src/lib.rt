@@ -64,6 +64,7 @@ impl<'a> Links<'a> {
         ensures { (result ≡ length (kept self.now q))
             × (out.new ≡ sets out.old (2 * start) (kept_rows self.now q)) }
     {
+        // a chain is no range and no slice: its rows are counted as the links come
         let mut n = 0;
         let mut link = self.first[q];
         while let Some(j) = link {

@@ -93,6 +93,7 @@ fn query_at(file: &[u8], at: usize, kind: Kind, size: usize) -> Query
 pub fn next_query(file: &[u8], first: usize) -> Option<(Query, usize)>
     ensures { result ≡ next_query file.now first }
 {
+    // each record says how long it is: no range has these steps
     let mut at = first;
     while let Some(size) = size_at(file, at) {
         let next = at + 6 + size;

@@ -16,6 +16,7 @@ fn read_file<R: Read>(from: &mut R, file: &mut [u8]) -> io::Result<usize>
         × (n < length file.new → IsAtEnd (R.remaining from.new))) }
     ensures failed { OnErr result ((n : ℕ) × (n ≤ length file.new) × Consumes (R.remaining from.old) (R.remaining from.new) (take n file.new)) }
 {
+    // how much one read gives is not known before
     let mut len = 0;
     while len < file.len() {
         match from.read(&mut file[len..])? {
@@ -35,6 +36,7 @@ fn run<W: Write, const N: usize>(
     requires { room ≤ N }
     ensures { OnOk result (Appends (W.contents to.old) (W.contents to.new) (printed file.now)) }
 {
+    // each piece says where the next begins
     let mut next = replies::first_piece(file, page);
     to.write_all(page.as_slice())?;
     while let Some(at) = next {

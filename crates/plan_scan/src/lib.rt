@@ -201,6 +201,7 @@ pub fn scan(file: &[u8], starts: &mut RecordStarts) -> Result<Counts, Refusal>
     ensures { Scanned file.now (walked file.now) (read_by result) starts.new }
 {
     starts.clear();
+    // each record says how long it is: no range has these steps
     let mut at = 0;
     while at < file.len() {
         let record = record_at(file, at, starts)?;

@@ -104,7 +104,7 @@ fn holds(keys: &[usize], x: usize) -> bool
     found
 }
 
-// Whether one of the keys stands twice.
+// Whether one of the keys stands twice: each is sought among those after it.
 fn has_repeat(keys: &[usize]) -> bool
     ensures { result ≡ repeats keys.now }
 {

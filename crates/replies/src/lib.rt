@@ -53,6 +53,7 @@ impl Tables {
     }
 }
 
+// The six floats are a query's, as the public call takes them. The lists are as long as document 01's limits ask.
 fn route_reply<const N: usize>(
     file: &[u8],
     x: f32,

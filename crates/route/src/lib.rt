@@ -29,7 +29,7 @@ use sampling::{Kept, LinkedLanes};
 use search::{Graph, LanePath};
 
 // What C gets for `route`: document 01's number, 0 for an answer; how many lanes and points stand in the lists, and the length. All else is zero
-// where refused.
+// where refused. An `Ok` is this struct with number 0, since one of its own would repeat three of the four fields.
 #[repr(C)]
 #[derive(Clone, Copy)]
 pub struct RouteAnswer {
@@ -206,6 +206,7 @@ impl RouteRows<'_> {
             (followed (tables_in self.now) s t (path_of self.now.lanes.now (graph_in self.now) start s goal t)))
             (answered result) chain.old chain.new waypoints.old waypoints.new }
     {
+        // `let .. else`: after `.ok_or(..)?` the goals have weaker facts
         let Some(path) = self.lane_path(start, s, goal, t) else {
             return Err(Refusal::NoChain);
         };

@@ -34,7 +34,7 @@ fn hex_digit(d: u8) -> u8
     if d < 10 { b'0' + d } else { b'A' + (d - 10) }
 }
 
-// The last k hexadecimal digits of n.
+// The last k hexadecimal digits of n: no Display states the digits that it writes.
 fn hex<const N: usize>(page: &mut ArrayVec<u8, N>, n: u64, k: u32)
     requires { (array_vec_len page.old + k ≤ N) × (k ≤ 16) }
     ensures { Adds (hex_of k n) k page.old page.new }
@@ -64,7 +64,7 @@ fn single_field<const N: usize>(page: &mut ArrayVec<u8, N>, x: f32)
     hex(page, float::to_bits(x) as u64, 8);
 }
 
-// Beside single_field: crate float gives the bits of each type by a function of its own, so that one generic function would need a trait.
+// Beside single_field: one function for both would be passed the digits and the way from each type's bits to a u64, and be no plainer.
 #[tactic(auto, unfolding(crate::specs::Lines::double_field, crate::specs::Numerals::double_of))]
 fn double_field<const N: usize>(page: &mut ArrayVec<u8, N>, x: f64)
     requires { array_vec_len page.old + 17 ≤ N }
@@ -217,6 +217,7 @@ fn position_line<const N: usize>(
     requires { array_vec_len page.old + 76 ≤ N }
     ensures { Adds (position_line case n s offset short) 76 page.old page.new }
 {
+    // the case is a number, as the lent rows have it for C
     if case == 0 {
         at_line(page, n, s, offset);
     } else {
