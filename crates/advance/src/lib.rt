@@ -108,7 +108,7 @@ fn answer(state: &State, rows: &mut [usize], positions: &mut [f64]) -> Result<Ad
     let out = state.found.out.as_slice();
     let n = out.len();
     if state.front.full || rows.len() < 2 * n || positions.len() < 3 * n {
-        return Err(Refusal::ShortList);
+        return Err(Refusal::TooMuch);
     }
     write_answers(out, rows, positions);
     Ok(Advanced {
@@ -177,16 +177,16 @@ pub fn advance(
     let lanes = plan.lanes;
     // `let .. else`: after `.ok_or(..)?` the goals have weaker facts
     let Some(i) = plan_find::find_lane(from.lane, lanes.rows, lanes.count) else {
-        return Err(Refusal::OffTheLanes);
+        return Err(Refusal::NotOnALane);
     };
     let Some(p) = plan.place(i) else {
-        return Err(Refusal::OffTheLanes);
+        return Err(Refusal::NotOnALane);
     };
     if !beside::is_in_section(bounds, plan.section(i, p), from.s) {
-        return Err(Refusal::OffTheLanes);
+        return Err(Refusal::NotOnALane);
     }
     if !float::is_finite(distance) {
-        return Err(Refusal::InfiniteDistance);
+        return Err(Refusal::NotADistance);
     }
     let arc = arc_at(plan, i, p, from.s);
     search(plan, i, arc, from.offset, distance, rows, positions)

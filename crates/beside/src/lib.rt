@@ -168,19 +168,19 @@ impl Seats<'_> {
         let lanes = self.lanes;
         let places = self.places;
         let Some(i) = plan_find::find_lane(at.lane, lanes, self.lane_count) else {
-            return Err(Refusal::OffTheLanes);
+            return Err(Refusal::NotOnALane);
         };
         let p = self.fans[5 * i + 4];
         if self.place_count <= p {
-            return Err(Refusal::OffTheLanes);
+            return Err(Refusal::NotOnALane);
         }
         let j = places[3 * p + 1];
         if !is_in_section(self.bounds, j, at.s) {
-            return Err(Refusal::OffTheLanes);
+            return Err(Refusal::NotOnALane);
         }
         let larger = is_toward_larger(Direction::from(lanes[6 * i + 2]), side);
         let Some(r) = self.next_row(j, places[3 * p + 2], larger) else {
-            return Err(Refusal::NoLaneBeside);
+            return Err(Refusal::NoneBeside);
         };
         let there = places[3 * r];
         Ok(LanePosition {

@@ -105,11 +105,11 @@ impl<'a> Lanes<'a> {
         ensures { nearest_by result ≡ nearest_among (lanes_from self.now.rows.now self.now.points.now self.now.count 0) p }
     {
         if !p.is_finite() {
-            return Err(Refusal::NotFinite);
+            return Err(Refusal::NotAPoint);
         }
         let [best] = self.nearest_rows([p]);
         match best {
-            None => Err(Refusal::NoLaneDrives),
+            None => Err(Refusal::NoneDrives),
             Some(b) => Ok(NearestLane {
                 lane: LaneId(self.rows[6 * b.row]),
                 projection: b.projection,

@@ -6,25 +6,25 @@ use Rattle.plan_format.specs.Reading.{no_counts}
 use Rattle.plan_format.specs.declared.Counts.{Counts}
 use Rattle.plan_format.specs.declared.Read.{Read}
 use Rattle.plan_format.specs.declared.Refusal.{Refusal}
-use Rattle.plan_format.specs.declared.Refusal.TheVariants.{ShortTable, LongFile, CutRecord, WrongLength, OutOfRange, OverLimit, StandsTwice, Missing}
-use Rattle.plan_format.specs.declared.Refusal.TheVariants.{NotFinite, NoLaneDrives, NoChain, OffTheLanes, InfiniteDistance, ShortList, NoLaneBeside}
+use Rattle.plan_format.specs.declared.Refusal.TheVariants.{ShortTable, LongFile, CutRecord, WrongRecord, OutOfRange, PastLimit, StandsTwice, Missing}
+use Rattle.plan_format.specs.declared.Refusal.TheVariants.{NotAPoint, NoneDrives, NoWay, NotOnALane, NotADistance, TooMuch, NoneBeside}
 
 abbrev pub number_of : Refusal → ℕ
 number_of ShortTable = 1
 number_of LongFile = 2
 number_of CutRecord = 3
-number_of WrongLength = 4
+number_of WrongRecord = 4
 number_of OutOfRange = 5
-number_of OverLimit = 6
+number_of PastLimit = 6
 number_of StandsTwice = 7
 number_of Missing = 8
-number_of NotFinite = 9
-number_of NoLaneDrives = 10
-number_of NoChain = 11
-number_of OffTheLanes = 12
-number_of InfiniteDistance = 13
-number_of ShortList = 14
-number_of NoLaneBeside = 15
+number_of NotAPoint = 9
+number_of NoneDrives = 10
+number_of NoWay = 11
+number_of NotOnALane = 12
+number_of NotADistance = 13
+number_of TooMuch = 14
+number_of NoneBeside = 15
 
 -- the number of a test: 0 where it finds nothing to refuse
 abbrev pub found_number : {A : Type 0} → Result A Refusal → ℕ
@@ -40,15 +40,15 @@ pub refusal_number : (e : Refusal) → number_of e ≡ 0 → ⊥
 refusal_number ShortTable h = omega arith
 refusal_number LongFile h = omega arith
 refusal_number CutRecord h = omega arith
-refusal_number WrongLength h = omega arith
+refusal_number WrongRecord h = omega arith
 refusal_number OutOfRange h = omega arith
-refusal_number OverLimit h = omega arith
+refusal_number PastLimit h = omega arith
 refusal_number StandsTwice h = omega arith
 refusal_number Missing h = omega arith
-refusal_number NotFinite h = omega arith
-refusal_number NoLaneDrives h = omega arith
-refusal_number NoChain h = omega arith
-refusal_number OffTheLanes h = omega arith
-refusal_number InfiniteDistance h = omega arith
-refusal_number ShortList h = omega arith
-refusal_number NoLaneBeside h = omega arith
+refusal_number NotAPoint h = omega arith
+refusal_number NoneDrives h = omega arith
+refusal_number NoWay h = omega arith
+refusal_number NotOnALane h = omega arith
+refusal_number NotADistance h = omega arith
+refusal_number TooMuch h = omega arith
+refusal_number NoneBeside h = omega arith

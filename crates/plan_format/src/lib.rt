@@ -19,22 +19,22 @@ pub enum Refusal {
     ShortTable,
     LongFile,
     CutRecord,
-    WrongLength,
+    WrongRecord,
     OutOfRange,
-    OverLimit,
+    PastLimit,
     StandsTwice,
     Missing,
-    NotFinite,
-    NoLaneDrives,
-    NoChain,
-    OffTheLanes,
-    InfiniteDistance,
-    ShortList,
-    NoLaneBeside,
+    NotAPoint,
+    NoneDrives,
+    NoWay,
+    NotOnALane,
+    NotADistance,
+    TooMuch,
+    NoneBeside,
 }
 
 impl Refusal {
-    // The number that an answer gives for it.
+    // The number that an answer gives for it; by name, since `usize::from` would not say that it is one.
     pub fn number(self) -> usize
         ensures { result ≡ number_of self }
     {
@@ -42,18 +42,18 @@ impl Refusal {
             Refusal::ShortTable => 1,
             Refusal::LongFile => 2,
             Refusal::CutRecord => 3,
-            Refusal::WrongLength => 4,
+            Refusal::WrongRecord => 4,
             Refusal::OutOfRange => 5,
-            Refusal::OverLimit => 6,
+            Refusal::PastLimit => 6,
             Refusal::StandsTwice => 7,
             Refusal::Missing => 8,
-            Refusal::NotFinite => 9,
-            Refusal::NoLaneDrives => 10,
-            Refusal::NoChain => 11,
-            Refusal::OffTheLanes => 12,
-            Refusal::InfiniteDistance => 13,
-            Refusal::ShortList => 14,
-            Refusal::NoLaneBeside => 15,
+            Refusal::NotAPoint => 9,
+            Refusal::NoneDrives => 10,
+            Refusal::NoWay => 11,
+            Refusal::NotOnALane => 12,
+            Refusal::NotADistance => 13,
+            Refusal::TooMuch => 14,
+            Refusal::NoneBeside => 15,
         }
     }
 }
@@ -70,20 +70,22 @@ pub enum Kind {
     Beside,
 }
 
-impl Kind {
-    // The kind with this number.
-    pub fn of(number: usize) -> Option<Kind>
-        ensures { result ≡ kind_of number }
-    {
+// The kind with this number; a record of no kind is refused.
+impl TryFrom<usize> for Kind {
+    type Error = Refusal;
+
+    ghost try_from_gives = { λ number result. result ≡ kind_of number };
+
+    fn try_from(number: usize) -> Result<Kind, Refusal> {
         match number {
-            1 => Some(Kind::Lane),
-            2 => Some(Kind::Link),
-            3 => Some(Kind::Section),
-            4 => Some(Kind::Place),
-            16 => Some(Kind::Route),
-            17 => Some(Kind::Advance),
-            18 => Some(Kind::Beside),
-            _ => None,
+            1 => Ok(Kind::Lane),
+            2 => Ok(Kind::Link),
+            3 => Ok(Kind::Section),
+            4 => Ok(Kind::Place),
+            16 => Ok(Kind::Route),
+            17 => Ok(Kind::Advance),
+            18 => Ok(Kind::Beside),
+            _ => Err(Refusal::WrongRecord),
         }
     }
 }

@@ -176,17 +176,17 @@ fn record_at(file: &[u8], at: usize, starts: &RecordStarts) -> Result<Record, Re
         return Err(Refusal::CutRecord);
     }
     let Some(kind) = Kind::of(u16_at(file, at + 4)) else {
-        return Err(Refusal::WrongLength);
+        return Err(Refusal::WrongRecord);
     };
     if !size_fits(file, at, kind, size) {
-        return Err(Refusal::WrongLength);
+        return Err(Refusal::WrongRecord);
     }
     if !fields_in_range(file, at, kind, size) {
         return Err(Refusal::OutOfRange);
     }
     let items = items_at(file, at, kind, size);
     if !starts.keeps_within(kind, items) {
-        return Err(Refusal::OverLimit);
+        return Err(Refusal::PastLimit);
     }
     Ok(Record {
         kind,

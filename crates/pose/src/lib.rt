@@ -77,7 +77,7 @@ impl<'a> Lanes<'a> {
             self.now.tangents.now }
     {
         match find_lane(lane, self.rows, self.count) {
-            None => Err(Refusal::OffTheLanes),
+            None => Err(Refusal::NotOnALane),
             Some(i) => Ok(self.pose_on(i, s)),
         }
     }

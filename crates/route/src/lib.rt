@@ -174,12 +174,12 @@ impl RouteRows<'_> {
             (answered result) chain.old chain.new waypoints.old waypoints.new }
     {
         if chain.len() < path.len() {
-            return Err(Refusal::ShortList);
+            return Err(Refusal::TooMuch);
         }
         let room = waypoints.len() / 3;
         let count = self.count_points(path, s, t, room);
         if room < count {
-            return Err(Refusal::ShortList);
+            return Err(Refusal::TooMuch);
         }
         self.write_chain(path, chain);
         self.write_points(path, s, t, waypoints);
@@ -208,7 +208,7 @@ impl RouteRows<'_> {
     {
         // `let .. else`: after `.ok_or(..)?` the goals have weaker facts
         let Some(path) = self.lane_path(start, s, goal, t) else {
-            return Err(Refusal::NoChain);
+            return Err(Refusal::NoWay);
         };
         self.follow(&path.lanes, path.cost, s, t, chain, waypoints)
     }
@@ -226,10 +226,10 @@ impl RouteRows<'_> {
             (answered result) chain.old chain.new waypoints.old waypoints.new }
     {
         let Some(start) = from else {
-            return Err(Refusal::NoLaneDrives);
+            return Err(Refusal::NoneDrives);
         };
         let Some(goal) = to else {
-            return Err(Refusal::NoLaneDrives);
+            return Err(Refusal::NoneDrives);
         };
         self.find_and_follow(
             start.row,
@@ -254,7 +254,7 @@ impl RouteRows<'_> {
             (answered result) chain.old chain.new waypoints.old waypoints.new }
     {
         if !both_finite(from, to) {
-            return Err(Refusal::NotFinite);
+            return Err(Refusal::NotAPoint);
         }
         let lanes = Lanes {
             rows: self.lanes,
