@@ -26,13 +26,14 @@ kind_of n =
     (cond (eqb n 17) (Ok Advance)
     (cond (eqb n 18) (Ok Beside) (Err WrongRecord)))))))
 
-ok_is : (k k' : Kind) → Ok k ≡ Ok k' → k ≡ k'
+ok_is : (k k' : Kind) → ◌≡◌ {A = Result Kind Refusal} (Ok k) (Ok k') → k ≡ k'
 ok_is k k' e = cc
 
 pub kind_known : (n : ℕ) (k : Kind) → kind_of n ≡ Ok k → kind_number k ≡ n
 kind_known n k = go (eqb n 1) (eqb n 2) (eqb n 3) (eqb n 4) (eqb n 16) (eqb n 17) (eqb n 18) refl refl refl refl refl refl refl
   where
-    at : (k' : Kind) (m : ℕ) → kind_number k' ≡ m → eqb n m ≡ true → Ok k' ≡ Ok k → kind_number k ≡ n
+    at : (k' : Kind) (m : ℕ) → kind_number k' ≡ m → eqb n m ≡ true → ◌≡◌ {A = Result Kind Refusal} (Ok k') (Ok k)
+        → kind_number k ≡ n
     at k' m q e s = ap kind_number (sym (ok_is k' k s)) ∙ q ∙ sym (eqb-true n m e)
 
     go : (b₁ b₂ b₃ b₄ b₅ b₆ b₇ : Bool) → eqb n 1 ≡ b₁ → eqb n 2 ≡ b₂ → eqb n 3 ≡ b₃ → eqb n 4 ≡ b₄ → eqb n 16 ≡ b₅ → eqb n 17 ≡ b₆
@@ -50,21 +51,23 @@ kind_known n k = go (eqb n 1) (eqb n 2) (eqb n 3) (eqb n 4) (eqb n 16) (eqb n 17
     go false false false false false false true e₁ e₂ e₃ e₄ e₅ e₆ e₇ s = at Beside 18 refl e₇ s
     go false false false false false false false e₁ e₂ e₃ e₄ e₅ e₆ e₇ s = cc
 
--- no length fits an unknown kind
-pub kind_unknown : (s : List ℕ) (at n size : ℕ) (e : Refusal) → kind_of n ≡ Err e → fits s at n size ≡ false
+-- no length fits an unknown kind, which is refused as such
+pub kind_unknown : (s : List ℕ) (at n size : ℕ) (e : Refusal) → kind_of n ≡ Err e
+    → (fits s at n size ≡ false) × (e ≡ WrongRecord)
 unfolding fits
-kind_unknown s at n size = go (eqb n 1) (eqb n 2) (eqb n 3) (eqb n 4) (eqb n 16) (eqb n 17) (eqb n 18) _ _ _ _ _ _ _
+kind_unknown s at n size e = go (eqb n 1) (eqb n 2) (eqb n 3) (eqb n 4) (eqb n 16) (eqb n 17) (eqb n 18) _ _ _ _ _ _ _
   where
     go : (b₁ b₂ b₃ b₄ b₅ b₆ b₇ x₁ x₂ x₃ x₄ x₅ x₆ x₇ : Bool)
         → cond b₁ (Ok Lane)
         (cond b₂ (Ok Link) (cond b₃ (Ok Section) (cond b₄ (Ok Place) (cond b₅ (Ok Route) (cond b₆ (Ok Advance) (cond b₇ (Ok Beside) (Err WrongRecord)))))))
-        ≡ Err WrongRecord
-        → cond b₁ x₁ (cond b₂ x₂ (cond b₃ x₃ (cond b₄ x₄ (cond b₅ x₅ (cond b₆ x₆ (cond b₇ x₇ false)))))) ≡ false
-    go true b₂ b₃ b₄ b₅ b₆ b₇ x₁ x₂ x₃ x₄ x₅ x₆ x₇ e = cc
-    go false true b₃ b₄ b₅ b₆ b₇ x₁ x₂ x₃ x₄ x₅ x₆ x₇ e = cc
-    go false false true b₄ b₅ b₆ b₇ x₁ x₂ x₃ x₄ x₅ x₆ x₇ e = cc
-    go false false false true b₅ b₆ b₇ x₁ x₂ x₃ x₄ x₅ x₆ x₇ e = cc
-    go false false false false true b₆ b₇ x₁ x₂ x₃ x₄ x₅ x₆ x₇ e = cc
-    go false false false false false true b₇ x₁ x₂ x₃ x₄ x₅ x₆ x₇ e = cc
-    go false false false false false false true x₁ x₂ x₃ x₄ x₅ x₆ x₇ e = cc
-    go false false false false false false false x₁ x₂ x₃ x₄ x₅ x₆ x₇ e = refl
+        ≡ Err e
+        → (cond b₁ x₁ (cond b₂ x₂ (cond b₃ x₃ (cond b₄ x₄ (cond b₅ x₅ (cond b₆ x₆ (cond b₇ x₇ false)))))) ≡ false)
+        × (e ≡ WrongRecord)
+    go true b₂ b₃ b₄ b₅ b₆ b₇ x₁ x₂ x₃ x₄ x₅ x₆ x₇ q = cc
+    go false true b₃ b₄ b₅ b₆ b₇ x₁ x₂ x₃ x₄ x₅ x₆ x₇ q = cc
+    go false false true b₄ b₅ b₆ b₇ x₁ x₂ x₃ x₄ x₅ x₆ x₇ q = cc
+    go false false false true b₅ b₆ b₇ x₁ x₂ x₃ x₄ x₅ x₆ x₇ q = cc
+    go false false false false true b₆ b₇ x₁ x₂ x₃ x₄ x₅ x₆ x₇ q = cc
+    go false false false false false true b₇ x₁ x₂ x₃ x₄ x₅ x₆ x₇ q = cc
+    go false false false false false false true x₁ x₂ x₃ x₄ x₅ x₆ x₇ q = cc
+    go false false false false false false false x₁ x₂ x₃ x₄ x₅ x₆ x₇ q = (refl, cc)

@@ -175,9 +175,7 @@ fn record_at(file: &[u8], at: usize, starts: &RecordStarts) -> Result<Record, Re
     if file.len() - at - 6 < size {
         return Err(Refusal::CutRecord);
     }
-    let Some(kind) = Kind::of(u16_at(file, at + 4)) else {
-        return Err(Refusal::WrongRecord);
-    };
+    let kind = Kind::try_from(u16_at(file, at + 4))?;
     if !size_fits(file, at, kind, size) {
         return Err(Refusal::WrongRecord);
     }
