@@ -10,7 +10,7 @@ use std::ops::{Add, Mul, Sub};
 
 // A place in the world: right-handed, Z-up, metres.
 #[repr(C)]
-#[derive(Clone, Copy)]
+#[derive(Clone, Copy, Default)]
 pub struct Point {
     pub x: f32,
     pub y: f32,
@@ -19,7 +19,7 @@ pub struct Point {
 
 // A displacement between places, or a direction.
 #[repr(C)]
-#[derive(Clone, Copy)]
+#[derive(Clone, Copy, Default)]
 pub struct Vector {
     pub x: f32,
     pub y: f32,
