@@ -1,7 +1,6 @@
 // geometry.rs: a lane's polyline, queried by arc length. It stands in parts of the flat tables: `points` (x y z of each),
 // `cumulative` (the arc length at each point) and `tangents` (x y z at each). `specs/` says what each function answers.
-// What needs the points alone, or the arc lengths alone, takes that list; what needs both is a method of `Polyline`, with a function over the two
-// lists where crates above call it.
+// What needs one list alone takes that list, or is a method of `ArcLengths` where they have to rise; what needs both is a method of `Polyline`.
 #![tactic(auto)]
 
 ghost use Rattle.std.specs.Prelude.{◌≡◌, ◌+◌, ◌*◌, ◌<◌, ◌≤◌, length};
@@ -15,7 +14,7 @@ use coords::{Point, Vector};
 
 // A position and a horizontal heading along a lane.
 #[repr(C)]
-#[derive(Clone, Copy)]
+#[derive(Clone, Copy, Default)]
 pub struct Pose {
     pub position: Point,
     pub heading: Vector,
@@ -23,7 +22,7 @@ pub struct Pose {
 
 // The result of projecting a point onto a polyline: arc length, nearest place, and the signed distance to the left of it.
 #[repr(C)]
-#[derive(Clone, Copy)]
+#[derive(Clone, Copy, Default)]
 pub struct Projection {
     pub s: f32,
     pub point: Point,
@@ -50,6 +49,13 @@ pub struct Ends {
 pub struct Nearer {
     pub dist: f32,
     pub best: Projection,
+}
+
+// The arc length at each of at least two points, which never falls.
+#[derive(Clone, Copy)]
+pub struct ArcLengths<'a> {
+    pub cumulative: &'a [f32],
+    pub ghost rising: { (2 ≤ length cumulative.now) × Rising cumulative.now },
 }
 
 // A lane's points, of which there are at least two, and the arc length at each.
@@ -169,7 +175,7 @@ fn write_vector(to: &mut [f32], i: usize, v: Vector)
     to[k + 2] = v.z;
 }
 
-// Writes the tangent at each of n points.
+// Writes the tangent at each of n points; C gives n, since its list of points may hold more.
 pub fn write_tangents(points: &[f32], n: usize, ends: Option<Ends>, tangents: &mut [f32])
     requires { (3 * n ≤ length points.now) × (length tangents.old ≡ 3 * n) }
     ensures { tangents.new ≡ tangents_of points.now n ends }
@@ -191,15 +197,6 @@ pub fn length(cumulative: &[f32]) -> f32
     cumulative[cumulative.len() - 1]
 }
 
-// The segment that holds s: the last vertex at or before it, never the last point.
-fn segment(cumulative: &[f32], s: f32) -> usize
-    requires { (2 ≤ length cumulative.now) × Rising cumulative.now }
-    ensures { result ≡ segment_of cumulative.now s }
-{
-    let n = cumulative.partition_point(|c| *c <= s);
-    n.saturating_sub(1).min(cumulative.len() - 2)
-}
-
 // The fraction of segment i at s; 0 on a segment of at most 1e-6.
 #[tactic(auto, unfolding(crate::specs::Locate::local_t))]
 fn local_t(cumulative: &[f32], i: usize, s: f32) -> f32
@@ -214,17 +211,26 @@ fn local_t(cumulative: &[f32], i: usize, s: f32) -> f32
     }
 }
 
-// The segment that holds s, and the fraction of it, with s clamped to the polyline.
-#[tactic(auto, using(crate::specs::LocateLaws::segment_inside), unfolding(crate::specs::Locate::locate_of))]
-pub fn locate(cumulative: &[f32], s: f32) -> Located
-    requires { (2 ≤ length cumulative.now) × Rising cumulative.now }
-    ensures { result ≡ locate_of cumulative.now s }
-{
-    let within = float::clamp(s, 0.0, length(cumulative));
-    let i = segment(cumulative, within);
-    Located {
-        segment: i,
-        t: local_t(cumulative, i, within),
+impl ArcLengths<'_> {
+    // The segment that holds s: the last vertex at or before it, never the last point.
+    fn segment(self, s: f32) -> usize
+        ensures { result ≡ segment_of self.entry.cumulative.now s }
+    {
+        let n = self.cumulative.partition_point(|c| *c <= s);
+        n.saturating_sub(1).min(self.cumulative.len() - 2)
+    }
+
+    // The segment that holds s, and the fraction of it, with s clamped to the polyline.
+    #[tactic(auto, using(crate::specs::LocateLaws::segment_inside), unfolding(crate::specs::Locate::locate_of))]
+    pub fn locate(self, s: f32) -> Located
+        ensures { result ≡ locate_of self.entry.cumulative.now s }
+    {
+        let within = float::clamp(s, 0.0, length(self.cumulative));
+        let i = self.segment(within);
+        Located {
+            segment: i,
+            t: local_t(self.cumulative, i, within),
+        }
     }
 }
 
@@ -289,7 +295,10 @@ impl Polyline<'_> {
         requires { Rising self.cumulative.now }
         ensures { result ≡ point_along self.entry.points.now self.entry.cumulative.now s }
     {
-        place_on(self.points, locate(self.cumulative, s))
+        let arcs = ArcLengths {
+            cumulative: self.cumulative,
+        };
+        place_on(self.points, arcs.locate(s))
     }
 
     // The place and the horizontal heading at arc length s.
@@ -298,7 +307,10 @@ impl Polyline<'_> {
         requires { (length tangents.now ≡ length self.points.now) × Rising self.cumulative.now }
         ensures { result ≡ pose_along self.entry.points.now self.entry.cumulative.now tangents.now s }
     {
-        let at = locate(self.cumulative, s);
+        let arcs = ArcLengths {
+            cumulative: self.cumulative,
+        };
+        let at = arcs.locate(s);
         Pose {
             position: place_on(self.points, at),
             heading: heading_on(tangents, at),
@@ -352,44 +364,4 @@ impl Polyline<'_> {
     {
         self.project_segments(p, 0, self.cumulative.len() - 1)
     }
-}
-
-// The methods of `Polyline` for a caller that holds the two lists apart.
-
-// The place at arc length s.
-pub fn point_at(points: &[f32], cumulative: &[f32], s: f32) -> Point
-    requires { Line points.now cumulative.now × Rising cumulative.now }
-    ensures { result ≡ point_along points.now cumulative.now s }
-{
-    Polyline { points, cumulative }.point_at(s)
-}
-
-// The place and the horizontal heading at arc length s.
-pub fn pose_at(points: &[f32], cumulative: &[f32], tangents: &[f32], s: f32) -> Pose
-    requires { Line points.now cumulative.now × (length tangents.now ≡ length points.now) × Rising cumulative.now }
-    ensures { result ≡ pose_along points.now cumulative.now tangents.now s }
-{
-    Polyline { points, cumulative }.pose_at(tangents, s)
-}
-
-// The nearest place to p on the segments `first` to `end - 1`.
-pub fn project_segments(
-    points: &[f32],
-    cumulative: &[f32],
-    p: Point,
-    first: usize,
-    end: usize,
-) -> Projection
-    requires { Line points.now cumulative.now × (first < length cumulative.now) × (end < length cumulative.now) }
-    ensures { result ≡ project_segments points.now cumulative.now p first end }
-{
-    Polyline { points, cumulative }.project_segments(p, first, end)
-}
-
-// The nearest place to p on the whole polyline.
-pub fn project(points: &[f32], cumulative: &[f32], p: Point) -> Projection
-    requires { Line points.now cumulative.now }
-    ensures { result ≡ project_of points.now cumulative.now p }
-{
-    Polyline { points, cumulative }.project(p)
 }
