@@ -102,31 +102,3 @@ impl StationedLane<'_> {
         }
     }
 }
-
-// The methods of `StationedLane` for a caller that holds the three lists apart.
-
-// How far along a lane the road station s is.
-pub fn along(points: &[f32], cumulative: &[f32], stations: &[f64], s: f64) -> f32
-    requires { Stationed points.now cumulative.now stations.now }
-    ensures { result ≡ along_of points.now stations.now s }
-{
-    let lane = StationedLane {
-        points,
-        cumulative,
-        stations,
-    };
-    lane.along(s)
-}
-
-// The road station `arc` metres along a lane.
-pub fn station_at(points: &[f32], cumulative: &[f32], stations: &[f64], arc: f32) -> f64
-    requires { Stationed points.now cumulative.now stations.now }
-    ensures { result ≡ station_of points.now stations.now arc }
-{
-    let lane = StationedLane {
-        points,
-        cumulative,
-        stations,
-    };
-    lane.station_at(arc)
-}
