@@ -1,4 +1,5 @@
-// The functions of `geometry` and `road` for Rust or C to link, each with its contract. The caller keeps what a `requires` says.
+// The functions of `geometry` and `road` for Rust or C to link, each with its contract. The caller keeps what a `requires` says: C lends the
+// lists one by one, so that the facts about them stand at each call.
 #![tactic(auto)]
 
 ghost use Rattle.std.specs.Prelude.{◌≡◌, ◌*◌, ◌≤◌, ◌<◌, length};
@@ -10,7 +11,7 @@ ghost use Rattle.road.specs.Along.{Stationed, along_of, station_of, centerline_o
 ghost use Rattle.geometry_c.specs.ForC.{as_centerline, ends_given};
 
 use coords::{Point, Vector};
-use geometry::{Located, Polyline, Pose, Projection};
+use geometry::{ArcLengths, Located, Polyline, Pose, Projection};
 use road::StationedLane;
 
 // For C, whether a lane's record gives tangents at its two ends, and the two.
@@ -22,12 +23,35 @@ pub struct Ends {
     pub end: Vector,
 }
 
+impl From<Ends> for Option<geometry::Ends> {
+    ghost from_gives = { λ ends found. found ≡ ends_given ends };
+
+    fn from(ends: Ends) -> Option<geometry::Ends> {
+        let found = geometry::Ends {
+            start: ends.start,
+            end: ends.end,
+        };
+        ends.given.then_some(found)
+    }
+}
+
 // For C, whether the station lies on the section, and how far along the centerline it is, 0 where it does not.
 #[repr(C)]
-#[derive(Clone, Copy)]
+#[derive(Clone, Copy, Default)]
 pub struct Centerline {
     pub on: bool,
     pub s: f32,
+}
+
+impl From<Option<f32>> for Centerline {
+    ghost from_gives = { λ found answer. answer ≡ as_centerline found };
+
+    fn from(found: Option<f32>) -> Centerline {
+        match found {
+            Some(s) => Centerline { on: true, s },
+            None => Centerline::default(),
+        }
+    }
 }
 
 #[unsafe(no_mangle)]
@@ -48,11 +72,7 @@ pub extern "C" fn kartsodi_write_tangents(
     requires { (3 * n ≤ length points.now) × (length tangents.old ≡ 3 * n) }
     ensures { tangents.new ≡ tangents_of points.now n (ends_given ends) }
 {
-    let given = geometry::Ends {
-        start: ends.start,
-        end: ends.end,
-    };
-    geometry::write_tangents(points, n, ends.given.then_some(given), tangents);
+    geometry::write_tangents(points, n, ends.into(), tangents);
 }
 
 #[unsafe(no_mangle)]
@@ -60,7 +80,7 @@ pub extern "C" fn kartsodi_locate(cumulative: &[f32], s: f32) -> Located
     requires { (2 ≤ length cumulative.now) × Rising cumulative.now }
     ensures { result ≡ locate_of cumulative.now s }
 {
-    geometry::locate(cumulative, s)
+    ArcLengths { cumulative }.locate(s)
 }
 
 #[unsafe(no_mangle)]
@@ -159,8 +179,5 @@ pub extern "C" fn kartsodi_centerline_s(
         cumulative,
         stations,
     };
-    match lane.centerline_s(start, end, s) {
-        Some(along) => Centerline { on: true, s: along },
-        None => Centerline { on: false, s: 0.0 },
-    }
+    Centerline::from(lane.centerline_s(start, end, s))
 }
