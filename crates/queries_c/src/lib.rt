@@ -21,19 +21,36 @@ use beside::{BesideAnswer, LanePosition, Seats};
 use branches::{Lanes, Plan};
 use coords::Point;
 use geometry::Projection;
-use network::{LaneIndex, Spans};
+use network::{LaneIndex, Nearest, Spans};
 use plan_format::Read;
 use route::RouteAnswer;
 
 // `Nearest` for C: zeros where nothing is found. `found` is a flag for C, which has no Option.
 #[repr(C)]
-#[derive(Clone, Copy)]
+#[derive(Clone, Copy, Default)]
 pub struct Hit {
     pub found: bool,
     pub dist2: f32,
     pub span: usize,
     pub row: usize,
     pub projection: Projection,
+}
+
+impl From<Option<Nearest>> for Hit {
+    ghost from_gives = { λ found hit. hit ≡ as_hit found };
+
+    fn from(found: Option<Nearest>) -> Hit {
+        match found {
+            Some(nearest) => Hit {
+                found: true,
+                dist2: nearest.dist2,
+                span: nearest.span,
+                row: nearest.row,
+                projection: nearest.projection,
+            },
+            None => Hit::default(),
+        }
+    }
 }
 
 // The tables come one by one, as C lends them, here and below.
@@ -117,30 +134,7 @@ pub extern "C" fn kartsodi_nearest_indexed(
         ranges,
         index,
     };
-    match spans.nearest_lane(p) {
-        Some(b) => Hit {
-            found: true,
-            dist2: b.dist2,
-            span: b.span,
-            row: b.row,
-            projection: b.projection,
-        },
-        None => Hit {
-            found: false,
-            dist2: 0.0,
-            span: 0,
-            row: 0,
-            projection: Projection {
-                s: 0.0,
-                point: Point {
-                    x: 0.0,
-                    y: 0.0,
-                    z: 0.0,
-                },
-                offset: 0.0,
-            },
-        },
-    }
+    Hit::from(spans.nearest_lane(p))
 }
 
 #[unsafe(no_mangle)]
