@@ -6,8 +6,8 @@ use Rattle.float.proofs.Quotients.{down_one, up_one}
 use Rattle.float.proofs.Wholes.{small_abs, plus_whole, minus_whole, own_whole, large_abs, limit32}
 use Rattle.float.proofs.whole.floor.Goals as goal
 
-pub up-requires : goal.up-requires
-up-requires c = small_abs 23 _ _ _ c.abs-a.ensures limit32 c.if-a.true
+pub invariant_of-size : goal.invariant_of-size
+invariant_of-size c = record { small = small_abs 23 _ _ _ c.abs-a.ensures limit32 c.if-a.true }
 
 pub returns-then-is_sign_negative : goal.returns-then-is_sign_negative
 unfolding floor_of
@@ -15,8 +15,8 @@ returns-then-is_sign_negative c =
     minus_whole binary32 down_by up_by 23 _ _ _ _ c.abs-a.ensures limit32 c.if-a.true
     (sym c.is_sign_negative.ensures ∙ c.if-is_sign_negative.true) c.up.ensures
 
-pub down-requires : goal.down-requires
-down-requires c = small_abs 23 _ _ _ c.abs-a.ensures limit32 c.if-a.true
+pub invariant_of-size-then-a : goal.invariant_of-size-then-a
+invariant_of-size-then-a c = record { small = small_abs 23 _ _ _ c.abs-a.ensures limit32 c.if-a.true }
 
 pub returns-then-a : goal.returns-then-a
 unfolding floor_of
