@@ -18,6 +18,7 @@ use branches::{Branch, Front, Lanes, Plan};
 use ends::{Advance, Found};
 use explore::State;
 use plan_format::Refusal;
+use road::StationedLane;
 
 // What `advance` answers: document 01's number, how many keys were entered, and how many positions stand in the lists. It is what C gets; an `Ok`
 // is this struct with number 0, since one of its own would repeat two of the three fields.
@@ -156,8 +157,13 @@ fn arc_at(plan: &Plan, i: usize, p: usize, s: f64) -> f32
     ensures { result ≡ along_of (points_of plan.now.lanes.rows.now plan.now.lanes.points.now i)
         (stations_of plan.now.sections.now plan.now.stations.now (placed_section plan.now.places.now p)) s }
 {
-    let (points, arcs) = plan.lanes.line(i);
-    road::along(points, arcs, plan.stations(i, p), s)
+    let line = plan.lanes.line(i);
+    let lane = StationedLane {
+        points: line.points,
+        cumulative: line.cumulative,
+        stations: plan.stations(i, p),
+    };
+    lane.along(s)
 }
 
 // Every place `distance` metres on from `from` along the lanes: a row of case and lane, and one of s, offset and metres short, for each. The lists

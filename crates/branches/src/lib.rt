@@ -7,7 +7,6 @@ ghost use Rattle.std.specs.List.{list_any};
 ghost use Rattle.arrayvec.specs.ArrayVec.{array_vec_len};
 ghost use Rattle.beside.specs.Sides.{direction_at};
 ghost use Rattle.geometry.specs.Partition.{Rising};
-ghost use Rattle.geometry.specs.Polyline.{Line};
 ghost use Rattle.road.specs.Along.{Stationed};
 ghost use Rattle.rows.specs.Rows.{arcs_of, direction_of, end_point, end_station, first_link, lane_number, length_of, place_of, placed_section};
 ghost use Rattle.rows.specs.Rows.{points_of, predecessors, stations_of, successors};
@@ -21,6 +20,7 @@ ghost use Rattle.branches.specs.Links.{enter_link, enter_links};
 use arrayvec::ArrayVec;
 use beside::Direction;
 use coords::Point;
+use geometry::Polyline;
 
 // One branch in flight: the row of its lane, how far along its centerline, which way it moves along it, its offset to the left of the traffic,
 // and the distance still to go.
@@ -94,14 +94,18 @@ pub fn lane_line<'a>(
     points: &'a [f32],
     cumulative: &'a [f32],
     i: usize,
-) -> (&'a [f32], &'a [f32])
+) -> Polyline<'a>
     requires { Laid lanes.now points.now cumulative.now i }
-    ensures points { result.0.now ≡ points_of lanes.now points.now i }
-    ensures arcs { result.1.now ≡ arcs_of lanes.now cumulative.now i }
+    ensures points { result.points.now ≡ points_of lanes.now points.now i }
+    ensures arcs { result.cumulative.now ≡ arcs_of lanes.now cumulative.now i }
+    ensures rising { Rising result.cumulative.now }
 {
     let first = lanes[6 * i + 4];
     let end = first + lanes[6 * i + 5];
-    (&points[3 * first..3 * end], &cumulative[first..end])
+    Polyline {
+        points: &points[3 * first..3 * end],
+        cumulative: &cumulative[first..end],
+    }
 }
 
 // The place at the end of lane i that a branch moving `up` it leaves by.
@@ -109,9 +113,13 @@ pub fn exit_point(lanes: &[usize], points: &[f32], cumulative: &[f32], i: usize,
     requires { Laid lanes.now points.now cumulative.now i }
     ensures { result ≡ exit_of lanes.now points.now cumulative.now i up }
 {
-    let (line, arcs) = lane_line(lanes, points, cumulative, i);
-    let s = if up { geometry::length(arcs) } else { 0.0 };
-    geometry::point_at(line, arcs, s)
+    let line = lane_line(lanes, points, cumulative, i);
+    let s = if up {
+        geometry::length(line.cumulative)
+    } else {
+        0.0
+    };
+    line.point_at(s)
 }
 
 // The first point of lane i.
@@ -119,8 +127,8 @@ fn head(lanes: &[usize], points: &[f32], cumulative: &[f32], i: usize) -> Point
     requires { Laid lanes.now points.now cumulative.now i }
     ensures { result ≡ head_of lanes.now points.now i }
 {
-    let (line, _) = lane_line(lanes, points, cumulative, i);
-    geometry::vertex(line, 0)
+    let line = lane_line(lanes, points, cumulative, i);
+    geometry::vertex(line.points, 0)
 }
 
 // The last point of lane i.
@@ -128,8 +136,8 @@ fn tail(lanes: &[usize], points: &[f32], cumulative: &[f32], i: usize) -> Point
     requires { Laid lanes.now points.now cumulative.now i }
     ensures { result ≡ tail_of lanes.now points.now cumulative.now i }
 {
-    let (line, arcs) = lane_line(lanes, points, cumulative, i);
-    geometry::vertex(line, arcs.len() - 1)
+    let line = lane_line(lanes, points, cumulative, i);
+    geometry::vertex(line.points, line.cumulative.len() - 1)
 }
 
 // The squared distance from p to the nearest place on lane i.
@@ -137,8 +145,7 @@ fn away(lanes: &[usize], points: &[f32], cumulative: &[f32], i: usize, p: Point)
     requires { Laid lanes.now points.now cumulative.now i }
     ensures { result ≡ away_from lanes.now points.now cumulative.now i p }
 {
-    let (line, arcs) = lane_line(lanes, points, cumulative, i);
-    let q = geometry::project(line, arcs, p).point;
+    let q = lane_line(lanes, points, cumulative, i).project(p).point;
     (q - p).length_squared()
 }
 
@@ -232,12 +239,11 @@ impl<'a> Lanes<'a> {
     }
 
     // Its points and the arc lengths at them.
-    pub fn line(&self, i: usize) -> (&'a [f32], &'a [f32])
+    pub fn line(&self, i: usize) -> Polyline<'a>
         requires { i < self.now.count }
-        ensures points { result.0.now ≡ points_of self.now.rows.now self.now.points.now i }
-        ensures arcs { result.1.now ≡ arcs_of self.now.rows.now self.now.cumulative.now i }
-        ensures line { Line result.0.now result.1.now }
-        ensures rising { Rising result.1.now }
+        ensures points { result.points.now ≡ points_of self.now.rows.now self.now.points.now i }
+        ensures arcs { result.cumulative.now ≡ arcs_of self.now.rows.now self.now.cumulative.now i }
+        ensures rising { Rising result.cumulative.now }
     {
         lane_line(self.rows, self.points, self.cumulative, i)
     }

@@ -14,6 +14,7 @@ use arrayvec::ArrayVec;
 use beside::LanePosition;
 use branches::{Branch, Plan};
 use plan_format::LaneId;
+use road::StationedLane;
 
 // Where one branch ended: it went the whole distance, or ran out of lanes, `short` metres of the distance short.
 #[derive(Clone, Copy)]
@@ -120,6 +121,7 @@ fn end_arc(b: Branch, room: f64) -> f32
 }
 
 // The lane position where a branch ends, on a lane with a place. It asks of one lane, so it takes the tables and no `Plan`.
+#[tactic(auto, unfolding(crate::specs::Ends::end_position))]
 fn end_position(
     lanes: &[usize],
     points: &[f32],
@@ -137,11 +139,15 @@ fn end_position(
     ensures { result ≡ end_position lanes.now points.now fans.now sections.now stations.now places.now ahead b room }
 {
     let i = b.lane;
-    let (line, arcs) = branches::lane_line(lanes, points, cumulative, i);
-    let held = branches::place_stations(sections, stations, places, fans[5 * i + 4]);
+    let line = branches::lane_line(lanes, points, cumulative, i);
+    let lane = StationedLane {
+        points: line.points,
+        cumulative: line.cumulative,
+        stations: branches::place_stations(sections, stations, places, fans[5 * i + 4]),
+    };
     LanePosition {
         lane: LaneId(lanes[6 * i]),
-        s: road::station_at(line, arcs, held, end_arc(b, room)),
+        s: lane.station_at(end_arc(b, room)),
         offset: b.left * branches::side(ahead, b.up),
     }
 }
