@@ -1,7 +1,7 @@
--- How a `Found` holds the places given: the oldest first, where the definitions have the newest first. Definitions only.
-use Rattle.std.specs.Prelude.{reverse}
+-- How a `Found` holds the places given: the oldest first, where the definitions have the newest first, and the keys with them. Definitions only.
+use Rattle.std.specs.Prelude.{map, reverse}
 use Rattle.ends.specs.declared.Found as declared
-use Rattle.ends.specs.Ends.{Found}
+use Rattle.ends.specs.Ends.{Found, placing_of}
 
 abbrev pub found_of : declared.Found → Found
-found_of g = record { placed = reverse g.placed.items; out = reverse g.out.items }
+found_of g = record { placed = map placing_of (reverse g.out.items); out = reverse g.out.items }

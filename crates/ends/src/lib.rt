@@ -35,7 +35,7 @@ impl Default for Advance {
 }
 
 // By what places are told apart; the case by document 01's number, as an answer has it.
-#[derive(Clone, Copy, Default, PartialEq, Eq)]
+#[derive(Clone, Copy)]
 pub struct Placing {
     pub case: usize,
     pub lane: usize,
@@ -76,6 +76,7 @@ impl Advance {
     }
 
     // By what the place is told apart.
+    #[tactic(auto, unfolding(crate::specs::Ends::placing_of))]
     fn placing(self) -> Placing
         ensures { result ≡ placing_of self }
     {
@@ -88,6 +89,20 @@ impl Advance {
             offset: branches::millimetres(at.offset),
             short: branches::millimetres(self.short()),
         }
+    }
+
+    // Whether the place is told apart by k. Most differ in the lane, so that nothing is rounded.
+    #[tactic(auto, unfolding(crate::specs::Ends::placing_of))]
+    fn is_told_by(self, k: Placing) -> bool
+        ensures { result ≡ same_placing (placing_of self) k }
+    {
+        let at = self.position();
+        let lane = at.lane;
+        self.case() == k.case
+            && lane.0 == k.lane
+            && branches::millimetres(at.s) == k.s
+            && branches::millimetres(at.offset) == k.offset
+            && branches::millimetres(self.short()) == k.short
     }
 
     // Writes the place as row i of the lists: case and lane; s, offset and metres short.
@@ -110,6 +125,7 @@ impl Advance {
 }
 
 // How far along its lane's centerline a branch ends, which has so much room there.
+#[tactic(auto, unfolding(crate::specs::Ends::end_arc))]
 fn end_arc(b: Branch, room: f64) -> f32
     ensures { result ≡ end_arc b room }
 {
@@ -153,6 +169,7 @@ fn end_position(
 }
 
 // Whether metres are left at the end.
+#[tactic(auto, unfolding(crate::specs::Ends::end_of))]
 fn end_of(remaining: f64, room: f64, at: LanePosition) -> Advance
     ensures { result ≡ end_of remaining room at }
 {
@@ -165,12 +182,10 @@ fn end_of(remaining: f64, room: f64, at: LanePosition) -> Advance
     Advance::Reached(at)
 }
 
-// The places given, the newest last, and by what each is told apart: two lists, since `holds` reads `placed` alone.
+// The places given, the newest last.
 #[derive(Drop)]
 pub struct Found {
-    pub placed: ArrayVec<Placing, 1026>,
     pub out: ArrayVec<Advance, 1026>,
-    pub ghost paired: { array_vec_len placed ≡ array_vec_len out },
 }
 
 impl Found {
@@ -179,37 +194,34 @@ impl Found {
 
     // No place given.
     pub fn new() -> Self
-        ensures placed { result.placed.items ≡ [] }
-        ensures out { result.out.items ≡ [] }
+        ensures { result.out.items ≡ [] }
     {
         Found {
-            placed: ArrayVec::new(),
             out: ArrayVec::new(),
         }
     }
 
     // Whether a place told apart by k was given before.
     fn holds(&self, k: Placing) -> bool
-        ensures { result ≡ list_any (λ y. same_placing y k) (reverse self.now.placed.items) }
+        ensures { result ≡ list_any (λ a. same_placing (placing_of a) k) (reverse self.now.out.items) }
     {
-        self.placed.iter().rev().any(|held| *held == k)
+        self.out.iter().rev().any(|held| held.is_told_by(k))
     }
 
     // The place a is given unless it was given before.
+    #[tactic(auto, unfolding(crate::specs::Ends::give), using(crate::specs::EndLaws::told_any, branches::specs::HeldLaws::pushed))]
     fn give(&mut self, a: Advance)
         requires { array_vec_len self.old.out < 1026 }
         ensures given { found_of self.new ≡ give a (found_of self.old) }
         ensures one { array_vec_len self.new.out ≤ array_vec_len self.old.out + 1 }
     {
-        let k = a.placing();
-        if self.holds(k) {
-            return;
+        if !self.holds(a.placing()) {
+            self.out.push(a);
         }
-        self.placed.push(k);
-        self.out.push(a);
     }
 
     // The end of a branch is given where its lane has one of the m places. It asks of that lane alone: so it stands beside `place`.
+    #[tactic(auto, unfolding(crate::specs::Ends::place))]
     pub fn place_on(
         &mut self,
         lanes: &[usize],

@@ -17,7 +17,6 @@ returns c =
       c.new.ensures.keys,
       c.start.ensures.full,
       c.new.ensures.full,
-      c.new-2.ensures.placed,
-      c.new-2.ensures.out,
+      c.new-2.ensures,
     )) c.run.ensures in
     c.answer.ensures ∙ ap (λ (x : State). answered x a.rows.now a.positions.now) fresh
