@@ -10,6 +10,7 @@ pub mod Keys
 pub mod Decodes
 pub mod Laws
 pub mod Lookup
+pub mod Roles
 pub mod Rows
 pub mod Samples
 pub mod Examples

@@ -2,8 +2,10 @@
 #![tactic(auto)]
 
 ghost use Rattle.std.specs.Prelude.{◌≡◌};
-ghost use Rattle.plan_format.specs.Kinds.{kind_of};
+ghost use Rattle.plan_format.specs.Kinds.{kind_number, kind_of};
+ghost use Rattle.plan_format.specs.Queries.{is_query};
 ghost use Rattle.plan_format.specs.Refusals.{number_of, read_by};
+ghost use Rattle.plan_format.specs.Roles.{role_of};
 
 // A lane by its number, and a road by its number: neither stands for the other, nor for a row of a table.
 #[repr(C)]
@@ -16,7 +18,7 @@ pub struct RoadId(pub usize);
 // Why a call is refused.
 #[derive(Clone, Copy, Debug, PartialEq, Eq)]
 pub enum Refusal {
-    ShortTable,
+    ShortTable = 1,
     LongFile,
     CutRecord,
     WrongRecord,
@@ -38,23 +40,7 @@ impl Refusal {
     pub fn number(self) -> usize
         ensures { result ≡ number_of self }
     {
-        match self {
-            Refusal::ShortTable => 1,
-            Refusal::LongFile => 2,
-            Refusal::CutRecord => 3,
-            Refusal::WrongRecord => 4,
-            Refusal::OutOfRange => 5,
-            Refusal::PastLimit => 6,
-            Refusal::StandsTwice => 7,
-            Refusal::Missing => 8,
-            Refusal::NotAPoint => 9,
-            Refusal::NoneDrives => 10,
-            Refusal::NoWay => 11,
-            Refusal::NotOnALane => 12,
-            Refusal::NotADistance => 13,
-            Refusal::TooMuch => 14,
-            Refusal::NoneBeside => 15,
-        }
+        self as usize
     }
 }
 
@@ -86,6 +72,39 @@ impl TryFrom<usize> for Kind {
             17 => Ok(Kind::Advance),
             18 => Ok(Kind::Beside),
             _ => Err(Refusal::WrongRecord),
+        }
+    }
+}
+
+impl Kind {
+    // Whether a record of this kind asks something of the plan.
+    pub fn is_query(self) -> bool
+        ensures { result ≡ is_query (kind_number self) }
+    {
+        matches!(self, Kind::Route | Kind::Advance | Kind::Beside)
+    }
+}
+
+// What the lane that a link leads to is to the lane that it leaves.
+#[derive(Clone, Copy, Debug, PartialEq, Eq)]
+pub enum Role {
+    Successor,
+    Predecessor,
+    Neighbour,
+}
+
+// The role with this number; any other is out of its range.
+impl TryFrom<usize> for Role {
+    type Error = Refusal;
+
+    ghost try_from_gives = { λ number result. result ≡ role_of number };
+
+    fn try_from(number: usize) -> Result<Role, Refusal> {
+        match number {
+            0 => Ok(Role::Successor),
+            1 => Ok(Role::Predecessor),
+            2 => Ok(Role::Neighbour),
+            _ => Err(Refusal::OutOfRange),
         }
     }
 }

@@ -11,7 +11,7 @@ ghost use Rattle.plan_format.specs.Refusals.{found_number, read_by};
 ghost use Rattle.plan_scan.specs.Scan.{Reads, Scanned, counts_in};
 
 use fields::{f32_at, f64_at, u8_at, u16_at, u32_at};
-use plan_format::{Counts, Kind, Refusal};
+use plan_format::{Counts, Kind, Refusal, Role};
 use starts::Record;
 pub use starts::RecordStarts;
 
@@ -143,7 +143,7 @@ fn fields_in_range(file: &[u8], at: usize, kind: Kind, size: usize) -> bool
 {
     match kind {
         Kind::Lane => lane_in_range(file, at),
-        Kind::Link => u8_at(file, at + 8) <= 2,
+        Kind::Link => Role::try_from(u8_at(file, at + 8)).is_ok(),
         Kind::Section => section_in_range(file, at),
         Kind::Beside => u8_at(file, at + 16) <= 1,
         Kind::Place | Kind::Route | Kind::Advance => true,

@@ -5,12 +5,6 @@ use Rattle.plan_format.specs.Plan.{station}
 use Rattle.plan_scan.specs.Ranges.{rising_back, rising_good, rising_none, rising_out}
 use Rattle.plan_scan.proofs.are_rising.Goals as goal
 
-pub loop-k-init : goal.loop-k-init
-loop-k-init c =
-    let p : c.args.first + 0 ≡ c.args.first = omega arith in
-    let q : c.args.n - 0 ≡ c.args.n = omega arith in
-    rw (p, q)
-
 pub returns-then-not-is_station : goal.returns-then-not-is_station
 returns-then-not-is_station c =
     let l = c.loop-k in

@@ -2,7 +2,7 @@
 use Rattle.std.proofs.Common.{sym, arith}
 use Rattle.std.proofs.lemmas.Result.{err_from_is_err_and}
 use Rattle.plan_format.specs.Refusals.{number_of, refusal_number}
-use Rattle.plan_scan.specs.Scan.{next_after, next_inside, room_for, scan_end, scan_next, scan_start, scan_stop}
+use Rattle.plan_scan.specs.Scan.{room_for, scan_end, scan_next, scan_start, scan_stop}
 use Rattle.plan_scan.proofs.scan.Goals as goal
 
 pub loop-at-init : goal.loop-at-init
@@ -21,16 +21,6 @@ pub add-requires : goal.add-requires
 add-requires c =
     let l = c.loop-at in
     room_for c.args.file.now l.at l.starts l.invariant (sym c.in_ok-record.ensures.number) c.in_ok-record.record c.in_ok-record.ensures.read
-
-pub loop-at-smaller : goal.loop-at-smaller
-loop-at-smaller c =
-    let l = c.loop-at in
-    let n = sym c.in_ok-record.ensures.number in
-    omega (
-      arith,
-      next_after c.args.file.now l.at l.starts l.invariant n c.in_ok-record.record c.in_ok-record.ensures.read,
-      next_inside c.args.file.now l.at l.starts l.invariant n c.in_ok-record.record c.in_ok-record.ensures.read,
-    )
 
 pub loop-at-preserved : goal.loop-at-preserved
 loop-at-preserved c =
