@@ -87,16 +87,8 @@ each_snoc P xs v e p j h = go (ltb j (length xs)) refl
 abbrev pub Room : ℕ → List ℕ → ℕ → Type 0
 Room n s at = at + n ≤ length s
 
--- a test of each element in turn, from the i-th on: here, later, at the end
+-- a test of each element in turn, from the i-th on: at the end
 module _ {A : Type 0} (test : A → Bool) (xs : List A) (i : ℕ) (d : A) where
-  pub any_here : i < length xs → test (get_or xs i d) ≡ true → any test (drop i xs) ≡ true
-  unfolding any
-  any_here h e = rw (drop_next xs i d h, e)
-
-  pub any_later : i < length xs → test (get_or xs i d) ≡ false → any test (drop (i + 1) xs) ≡ any test (drop i xs)
-  unfolding any
-  any_later h e = rw (drop_next xs i d h, e)
-
   pub any_end : length xs ≤ i → any test (drop i xs) ≡ false
   unfolding any
   any_end h = rw (drop_none xs i h)

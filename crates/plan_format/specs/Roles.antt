@@ -1,7 +1,6 @@
 -- The number of each role of a link, which stands in its record.
-use Rattle.std.specs.Prelude.{◌≡◌, ℕ, Result, Ok, Err, cond, eqb, leb, is_ok, refl, suc, zero, ◌<◌}
+use Rattle.std.specs.Prelude.{◌≡◌, ℕ, Result, Ok, Err, cond, eqb, refl, suc, zero, ◌<◌}
 use Rattle.std.proofs.Common.{arith, ne_eqb}
-use borrow.Author.Tests.{lt-leb}
 use Rattle.plan_format.specs.declared.Refusal.{Refusal}
 use Rattle.plan_format.specs.declared.Refusal.TheVariants.{OutOfRange}
 use Rattle.plan_format.specs.declared.Role.{Role}
@@ -25,10 +24,3 @@ role_known zero r e = cc
 role_known (suc zero) r e = cc
 role_known (suc (suc zero)) r e = cc
 role_known (suc (suc (suc n))) r e = let z = no_role (suc (suc (suc n))) (omega arith) in cc
-
--- exactly the numbers to 2 are roles'
-pub role_within : (n : ℕ) → is_ok (role_of n) ≡ leb n 2
-role_within zero = refl
-role_within (suc zero) = refl
-role_within (suc (suc zero)) = refl
-role_within (suc (suc (suc n))) = rw (no_role (suc (suc (suc n))) (omega arith), lt-leb (suc (suc (suc n))) 2 (omega arith)) refl

@@ -1,8 +1,8 @@
 -- Laws of rows one after the other, for those who write them from where the records start.
 use Rattle.std.specs.Prelude.{List, [], map, ◌++◌, ◌≡◌, ℕ, ◌+◌, ◌<◌, ◌≤◌, drop, get_or, length}
-use Rattle.std.proofs.Common.{ap, ◌∙◌, arith, length-append}
+use Rattle.std.proofs.Common.{arith}
 use Rattle.std.proofs.lemmas.List.Edits.{sets}
-use Rattle.lists.specs.Filling.{Filling, fill_many, fill_room}
+use Rattle.lists.specs.Filling.{Filling, fill_many}
 use Rattle.plan_format.specs.Laws.{map_next, map_none}
 use Rattle.plan_format.specs.Tables.{rows, rows_from}
 
@@ -18,12 +18,6 @@ module _ {X A : Type 0} (row : X → List A) (at : ℕ → X) (ps : List ℕ) (i
 
   module _ (old out : List A) (k : ℕ) (F : Filling A old out k (rows row (map at (drop i ps))) (rows row (map at ps))) (h : i < length ps)
     where
-      pub rows_room : k + length (row (at (get_or ps i 0))) ≤ length (rows row (map at ps))
-      rows_room =
-          let e = fill_room A old out k (rows row (map at (drop i ps))) (rows row (map at ps)) F in
-          let s = ap length (rows_split h) ∙ length-append (row (at (get_or ps i 0))) (rows row (map at (drop (i + 1) ps))) in
-          omega arith
-
       pub rows_next : (next : List A) (n : ℕ) → next ≡ sets out k (row (at (get_or ps i 0))) → length (row (at (get_or ps i 0))) ≡ n
           → k + n ≤ length old
           → Filling A old next (k + n) (rows row (map at (drop (i + 1) ps))) (rows row (map at ps))

@@ -12,21 +12,10 @@ use Rattle.plan_format.specs.Plan.{every, rises, rises_from, station}
 use Rattle.plan_format.specs.Records.{doubles, run}
 
 module _ (test : Float → Bool) (read : List ℕ → ℕ → Float) (width : ℕ) (s : List ℕ) (at : ℕ) where
-  pub every_none : (n : ℕ) → n ≤ 0 → every test (run read width s at n) ≡ true
-  unfolding every run
-  every_none zero h = refl
-  every_none (suc n) h = absurd (omega arith)
-
   pub every_bad : (n : ℕ) → 0 < n → test (read s at) ≡ false → every test (run read width s at n) ≡ false
   unfolding every run
   every_bad zero h e = absurd (omega arith)
   every_bad (suc n) h e = and_left _ (every test (run read width s (at + width) n)) e
-
-  pub every_good : (n : ℕ) → 0 < n → test (read s at) ≡ true
-      → every test (run read width s (at + width) (n - 1)) ≡ every test (run read width s at n)
-  unfolding every run
-  every_good zero h e = absurd (omega arith)
-  every_good (suc n) h e = let z : suc n - 1 ≡ n = omega arith in rw (z, e)
 
 -- a test of the floats one by one, by their places
 every_run : (test : Float → Bool) (read : List ℕ → ℕ → Float) (width : ℕ) (s : List ℕ) (first j n : ℕ)

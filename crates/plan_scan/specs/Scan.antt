@@ -418,12 +418,6 @@ module _ (s : List ℕ) (at : ℕ) (h : RecordStarts) (S : Scanning s at h) wher
     pub room_for : within (kind_number r.kind) r.items (counts_in h) ≡ true
     room_for = rw (R.kind, R.items) (passed s at (counts_in h) v).limit
 
-    pub next_inside : r.next ≤ length s
-    next_inside = rw R.next (passed s at (counts_in h) v).ok.room
-
-    pub next_after : at + 6 ≤ r.next
-    next_after = let e = R.next in omega arith
-
     pub scan_next : at < length s → (h' : RecordStarts) → Grows at (kind_number r.kind) r.items h h' → Scanning s r.next h'
     scan_next l h' G =
         record {

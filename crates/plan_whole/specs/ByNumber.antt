@@ -1,6 +1,6 @@
 -- A list with the row of each lane number, so that a lane is found in one step.
-use Rattle.std.specs.Prelude.{Bool, cond, false, true, List, [], map, ◌∷◌, refl, ◌≡◌, ℕ, ◌+◌, ◌-◌, ◌<◌, ◌≤◌, eqb, ltb, drop, get_or, length, set}
-use Rattle.std.proofs.Common.{subst, sym, ◌∙◌, arith, length-set, get_or-set_other, get_or-set_same, eqb-true, ltb-false, ltb-true}
+use Rattle.std.specs.Prelude.{Bool, cond, false, true, List, [], map, ◌∷◌, refl, ◌≡◌, ℕ, ◌+◌, ◌-◌, ◌<◌, ◌≤◌, eqb, drop, get_or, length, set}
+use Rattle.std.proofs.Common.{subst, sym, ◌∙◌, arith, length-set, get_or-set_other, get_or-set_same, eqb-true}
 use Rattle.std.proofs.lemmas.Bool.{eqb-false}
 use Rattle.fields.specs.Fields.{u16_at}
 use Rattle.plan_format.specs.Laws.{map_next, map_none}
@@ -23,23 +23,6 @@ number_one m ns x i S h = record { size = length-set m x i ∙ S.size; at = λ n
 pub numbers_clear : (m : List ℕ) → length m ≡ 65536 → ((n : ℕ) → n < 65536 → get_or m n 0 ≡ 256) → ByNumber m [] 0
 unfolding index_of
 numbers_clear m e h = record { size = e; at = h }
-
-lt_of_ne : (n i : ℕ) → (n ≡ i → ⊥) → n < i + 1 → n < i
-lt_of_ne n i d k = go (ltb n i) refl
-  where
-    go : (b : Bool) → ltb n i ≡ b → n < i
-    go true e = ltb-true n i e
-    go false e = let l = ltb-false n i e in absurd (d (omega arith))
-
-pub clear_one : (m : List ℕ) (i : ℕ) → i < length m → ((n : ℕ) → n < i → get_or m n 0 ≡ 256) → (n : ℕ) → n < i + 1
-    → get_or (set m i 256) n 0 ≡ 256
-clear_one m i l h n k = go (eqb n i) refl
-  where
-    go : (b : Bool) → eqb n i ≡ b → get_or (set m i 256) n 0 ≡ 256
-    go true e = let q = eqb-true n i e in rw q (get_or-set_same m i 256 0 l)
-    go false e =
-        let d = eqb-false n i e in
-        get_or-set_other m i n 256 0 d ∙ h n (omega (arith, lt_of_ne n i d k))
 
 pub numbers_none : (m : List ℕ) (i : ℕ) → ByNumber m [] 0 → ByNumber m [] i
 unfolding index_of

@@ -1,16 +1,13 @@
 -- Number 7, as the code reads it: the keys that must stand once, in the file.
-use Rattle.std.specs.Prelude.{Bool, cond, false, true, ◌||◌, ◌≡◌, ℕ, ◌*◌, ◌+◌, ◌<◌, ◌≤◌, eqb, ltb, drop, get_or, length, take}
+use Rattle.std.specs.Prelude.{Bool, cond, false, true, ◌||◌, ◌≡◌, ℕ, ◌*◌, ◌+◌, ◌≤◌, eqb, length}
 use Rattle.std.specs.List.{list_any}
 use mathlib.Core.List.{List, [], map, ◌∷◌}
 use Rattle.std.proofs.Math.Path.{ap, refl}
-use Rattle.std.proofs.Common.{sym, ◌∙◌, get_or-take, length-take-le, take_all, take_at, ltb-false, ltb-true}
 use native.Mathlib.Omega.{arith}
-use Rattle.std.proofs.lemmas.List.{length-map}
 use Rattle.fields.specs.Fields.{u16_at}
-use Rattle.plan_format.specs.Laws.{Each, Room, drop_next, drop_none}
+use Rattle.plan_format.specs.Laws.{Each, Room}
 use Rattle.plan_format.specs.Plan.{Starts, any, holds, number_of, place_key, place_lane, plan_of, repeats, section_key, twice}
 use Rattle.plan_format.specs.Records.{lane_at, place_at, raised_at, section_at}
-use Rattle.plan_format.specs.Tables.{over}
 
 abbrev pub pair_at : List ℕ → ℕ → ℕ
 pair_at s at = u16_at s at * 65536 + u16_at s (at + 2)
@@ -24,44 +21,6 @@ key_at s which at =
 pub record Listed (s part : List ℕ) (n : ℕ) : Type 0 where
   pub room : Each (Room 16 s) part
   pub count : length part ≤ n
-
--- the first n keys of a list
-module _ (keys : List ℕ) (n i : ℕ) (b : n ≤ length keys) where
-  pub first_in : i < n → i < length (take n keys)
-  first_in h = omega (arith, length-take-le n keys b)
-
-  pub first_out : n ≤ i → length (take n keys) ≤ i
-  first_out h = omega (arith, length-take-le n keys b)
-
-  pub first_at : i < n → get_or (take n keys) i 0 ≡ get_or keys i 0
-  first_at h = get_or-take n keys i 0 h
-
--- a list that begins with the keys of a part
-pub keys_first : (f : ℕ → ℕ) (part old keys : List ℕ) → keys ≡ over (map f part) old → take (length part) keys ≡ map f part
-keys_first f part old keys e = rw e (take_at (map f part) (drop (length (map f part)) old) (length part) (length-map part f))
-
-pub keys_room : (f : ℕ → ℕ) (part keys : List ℕ) → take (length part) keys ≡ map f part → length part ≤ length keys
-keys_room f part keys e = go (ltb (length keys) (length part)) refl
-  where
-    go : (b : Bool) → ltb (length keys) (length part) ≡ b → length part ≤ length keys
-    go true q =
-        let l = ltb-true (length keys) (length part) q in
-        let short = ap length (sym (take_all (length part) keys (omega arith)) ∙ e) in
-        absurd (omega (arith, length-map part f))
-    go false q = ltb-false (length keys) (length part) q
-
-pub repeats_none : (ks : List ℕ) (i : ℕ) → length ks ≤ i → repeats (drop i ks) ≡ false
-unfolding repeats
-repeats_none ks i h = rw (drop_none ks i h)
-
-pub repeats_here : (ks : List ℕ) (i : ℕ) → i < length ks → holds (get_or ks i 0) (drop (i + 1) ks) ≡ true → repeats (drop i ks) ≡ true
-unfolding repeats
-repeats_here ks i h e = rw (drop_next ks i 0 h, e)
-
-pub repeats_later : (ks : List ℕ) (i : ℕ) → i < length ks → holds (get_or ks i 0) (drop (i + 1) ks) ≡ false
-    → repeats (drop (i + 1) ks) ≡ repeats (drop i ks)
-unfolding repeats
-repeats_later ks i h e = rw (drop_next ks i 0 h, e)
 
 -- std's word for a test of each element is the definition's
 pub any_is : {A : Type 0} (test : A → Bool) (xs : List A) → list_any test xs ≡ any test xs

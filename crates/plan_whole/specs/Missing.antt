@@ -1,23 +1,19 @@
 -- Number 8, as the code reads it.
-use Rattle.std.specs.Prelude.{Bool, false, not, true, List, [], map, ◌∷◌, refl, ◌≡◌, ℕ, ◌+◌, ◌<◌, ◌≤◌, eqb, drop, get_or, length, take}
+use Rattle.std.specs.Prelude.{Bool, false, not, true, List, [], map, ◌∷◌, refl, ◌≡◌, ℕ, ◌+◌, ◌<◌, ◌≤◌, eqb, drop, get_or, length}
 use Rattle.std.specs.Prelude.{Option, None, Some, IfSome, is_some, unwrap_or}
 use Rattle.std.proofs.Common.{ap, sym, ◌∙◌, true≢false}
 use native.Mathlib.Omega.{arith}
 use borrow.Author.Tests.{eq-eqb, ne_eqb}
 use Rattle.fields.specs.Fields.{u16_at}
-use Rattle.plan_format.specs.Laws.{Bytes, Each, Room, any_map, any_same, drop_next, drop_none, get_or_map_in, word_below}
+use Rattle.plan_format.specs.Laws.{Each, Room, any_map, any_same, drop_next, drop_none, get_or_map_in}
 use Rattle.plan_format.specs.Lookup.{index_in}
-use Rattle.plan_format.specs.Plan.{Starts, any, from_missing, index_of, lane_count, misplaced, plan_of, section_count, unlike}
-use Rattle.plan_format.specs.Records.{lane_at, link_at, place_at, section_at}
+use Rattle.plan_format.specs.Plan.{Starts, any, index_of, lane_count, misplaced, plan_of, section_count, unlike}
+use Rattle.plan_format.specs.Records.{lane_at, place_at, section_at}
 use Rattle.plan_whole.specs.ByNumber.{ByNumber}
 use Rattle.plan_whole.specs.Keys.{key_at, lane_keys, pair_at, section_keys}
 
 abbrev pub word_at : List ℕ → ℕ → ℕ → ℕ
 word_at s off p = u16_at s (p + off)
-
--- a link whose `from` has no row in m
-abbrev pub from_missing_by : List ℕ → List ℕ → ℕ → Bool
-from_missing_by s m p = eqb (get_or m (u16_at s (p + 6)) 0) 256
 
 unfoldable pub misplaced_in : List ℕ → List ℕ → List ℕ → ℕ → Bool
 misplaced_in s ls ss at =
@@ -32,10 +28,6 @@ pub record Searching (s ls ss m : List ℕ) : Type 0 where
   pub sections : length ss ≤ 64
   pub rows : ByNumber m (map (key_at s 0) ls) 0
 
-pub record Searched (s ls ss keys m : List ℕ) : Type 0 where
-  pub lists : Searching s ls ss m
-  pub keys_are : take (length ss) keys ≡ map (key_at s 1) ss
-
 -- a search among the first n keys, from the i-th on
 module _ (k : ℕ) (keys : List ℕ) (i d : ℕ) where
   pub index_here : i < length keys → eqb (get_or keys i 0) k ≡ true → index_of k (drop i keys) i d ≡ i
@@ -49,13 +41,6 @@ module _ (k : ℕ) (keys : List ℕ) (i d : ℕ) where
   pub index_end : length keys ≤ i → index_of k (drop i keys) i d ≡ d
   unfolding index_of
   index_end h = rw (drop_none keys i h)
-
--- number 8 of a plan is that of its records in the file
-pub from_is : (s : List ℕ) → Bytes s → (m ns ks : List ℕ) → ByNumber m ns 0
-    → any (from_missing ns) (map (link_at s) ks) ≡ any (from_missing_by s m) ks
-from_is s B m ns ks S =
-    any_map (from_missing ns) (link_at s) ks
-    ∙ any_same (λ (p : ℕ). from_missing ns (link_at s p)) (from_missing_by s m) ks (λ p. rw (S.at (u16_at s (p + 6)) (word_below s (p + 6) B)))
 
 module _ (s : List ℕ) where
   lane_counts : (ps : List ℕ) → map lane_count (map (lane_at s) ps) ≡ map (word_at s 11) ps

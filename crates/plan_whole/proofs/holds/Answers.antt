@@ -1,6 +1,6 @@
 -- What was found, or else what is left of the keys holds x, exactly when the keys hold x.
-use Rattle.std.specs.Prelude.{List, Bool, true, false, ◌||◌, drop, eqb, get_or, ◌∷◌, ◌+◌}
-use Rattle.std.proofs.Common.{rules, arith, ap, refl, sym, ◌≡◌, ◌∙◌, ℕ}
+use Rattle.std.specs.Prelude.{List, Bool, true, false, ◌||◌, drop, eqb, get_or, ◌+◌}
+use Rattle.std.proofs.Common.{arith, ap, refl, sym, ◌≡◌, ◌∙◌, ℕ}
 use Rattle.std.proofs.Math.Bool.{or_assoc}
 use Rattle.plan_format.specs.Laws.{any_end, drop_next}
 use Rattle.plan_format.specs.Plan.{any, holds}
