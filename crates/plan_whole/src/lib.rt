@@ -39,6 +39,14 @@ pub struct Records<'a> {
     pub ghost parts: { Parts file.now lanes.now links.now sections.now places.now },
 }
 
+// Records with the row of each lane number.
+#[derive(Clone, Copy)]
+struct Numbered<'a> {
+    records: Records<'a>,
+    rows: &'a [u16],
+    ghost by_number: { ByNumber rows.now (map (key_at records.file.now 0) records.lanes.now) 0 },
+}
+
 // The key of a road's section. Sections are found by it alone, so a lane's number never finds one.
 fn section_key(road: RoadId, index: usize) -> usize
     requires { (road.0 < 65536) × (index < 65536) }
@@ -165,6 +173,48 @@ pub fn find(keys: &[usize], k: usize) -> Option<usize>
     None
 }
 
+impl<'a> Numbered<'a> {
+    // Whether a link's from-lane is missing.
+    fn from_missing(&self) -> bool
+        ensures { result ≡ any (from_missing (map (key_at self.now.records.file.now 0) self.now.records.lanes.now))
+            (map (link_at self.now.records.file.now) self.now.records.links.now) }
+    {
+        self.records
+            .links
+            .iter()
+            .any(|at| lane_row(self.records.file, *at, self.rows).is_none())
+    }
+
+    // Whether the lane or the section of the place at `at` is missing, or they differ in count. `keys` has the sections' keys.
+    // By `let else`, since a test has no refusal that `?` could hand on.
+    fn is_misplaced(&self, at: usize, keys: &[usize]) -> bool
+        requires { (at + 16 ≤ length self.now.records.file.now)
+            × (keys.now ≡ map (key_at self.now.records.file.now 1) self.now.records.sections.now) }
+        ensures { result ≡ misplaced_in self.now.records.file.now self.now.records.lanes.now self.now.records.sections.now at }
+    {
+        let Some(lane) = lane_row(self.records.file, at, self.rows) else {
+            return true;
+        };
+        let Some(section) = find(keys, pair(self.records.file, at + 8)) else {
+            return true;
+        };
+        u16_at(self.records.file, self.records.lanes[lane] + 11)
+            != u16_at(self.records.file, self.records.sections[section] + 26)
+    }
+
+    // Number 8 for the places.
+    fn any_misplaced(&self) -> bool
+        ensures { result ≡ any (misplaced_in self.now.records.file.now self.now.records.lanes.now self.now.records.sections.now)
+            self.now.records.places.now }
+    {
+        let keys = keys::<64>(self.records.file, self.records.sections, Key::Section);
+        self.records
+            .places
+            .iter()
+            .any(|at| self.is_misplaced(*at, &keys))
+    }
+}
+
 impl<'a> Records<'a> {
     // Number 7.
     fn any_twice(&self) -> bool
@@ -174,44 +224,6 @@ impl<'a> Records<'a> {
             || repeats_key(self.file, self.sections, Key::Section)
             || repeats_key(self.file, self.places, Key::Lane)
             || repeats_key(self.file, self.places, Key::PlaceInSection)
-    }
-
-    // Whether a link's from-lane is missing.
-    fn from_missing(&self, rows: &[u16]) -> bool
-        requires { ByNumber rows.now (map (key_at self.now.file.now 0) self.now.lanes.now) 0 }
-        ensures { result ≡ any (from_missing (map (key_at self.now.file.now 0) self.now.lanes.now))
-            (map (link_at self.now.file.now) self.now.links.now) }
-    {
-        self.links
-            .iter()
-            .any(|at| lane_row(self.file, *at, rows).is_none())
-    }
-
-    // Whether the lane or the section of the place at `at` is missing, or they differ in count. `keys` has the sections' keys.
-    fn is_misplaced(&self, at: usize, keys: &[usize], rows: &[u16]) -> bool
-        requires { (at + 16 ≤ length self.now.file.now)
-            × (keys.now ≡ map (key_at self.now.file.now 1) self.now.sections.now)
-            × ByNumber rows.now (map (key_at self.now.file.now 0) self.now.lanes.now) 0 }
-        ensures { result ≡ misplaced_in self.now.file.now self.now.lanes.now self.now.sections.now at }
-    {
-        let Some(lane) = lane_row(self.file, at, rows) else {
-            return true;
-        };
-        let Some(section) = find(keys, pair(self.file, at + 8)) else {
-            return true;
-        };
-        u16_at(self.file, self.lanes[lane] + 11) != u16_at(self.file, self.sections[section] + 26)
-    }
-
-    // Number 8 for the places.
-    fn any_misplaced(&self, rows: &[u16]) -> bool
-        requires { ByNumber rows.now (map (key_at self.now.file.now 0) self.now.lanes.now) 0 }
-        ensures { result ≡ any (misplaced_in self.now.file.now self.now.lanes.now self.now.sections.now) self.now.places.now }
-    {
-        let keys = keys::<64>(self.file, self.sections, Key::Section);
-        self.places
-            .iter()
-            .any(|at| self.is_misplaced(*at, &keys, rows))
     }
 
     // What the whole file is refused for; for a file that is not, `rows` then has the row of each lane number.
@@ -228,7 +240,11 @@ impl<'a> Records<'a> {
             return Err(Refusal::StandsTwice);
         }
         index_numbers(self.file, self.lanes, rows);
-        if self.from_missing(rows) || self.any_misplaced(rows) {
+        let numbered = Numbered {
+            records: *self,
+            rows,
+        };
+        if numbered.from_missing() || numbered.any_misplaced() {
             return Err(Refusal::Missing);
         }
         Ok(())
