@@ -1,5 +1,5 @@
 -- Hexadecimal digits, from the first to the last.
-use Rattle.std.specs.Prelude.{[], ◌∷◌, refl, ◌≡◌, suc, zero, ℕ, ◌%◌, ◌*◌, ◌-◌, ◌/◌, ◌<◌, ◌^◌, length}
+use Rattle.std.specs.Prelude.{◌∷◌, refl, ◌≡◌, suc, zero, ℕ, ◌%◌, ◌*◌, ◌-◌, ◌/◌, ◌<◌, ◌^◌, length}
 use Rattle.std.proofs.Common.{ap, arith}
 use Rattle.std.proofs.Math.Nat.{pow-suc}
 use Rattle.text.specs.Numerals.{hex_digit, hex_of}
@@ -21,8 +21,3 @@ pub hex_more : (n i : ℕ) → 0 < i → hex_of i n ≡ hex_digit (n / 2 ^ (4 * 
 unfolding hex_of
 hex_more n zero h = absurd (omega arith)
 hex_more n (suc i) h = let e : suc i - 1 ≡ i = omega arith in rw (e, sixteens i)
-
--- none is left
-pub hex_none : (n : ℕ) → hex_of 0 n ≡ []
-unfolding hex_of
-hex_none n = refl

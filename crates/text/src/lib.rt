@@ -2,11 +2,11 @@
 // `specs/Lines.antt` says what a line has.
 #![tactic(auto)]
 
-ghost use Rattle.std.specs.Prelude.{◌≡◌, ◌+◌, ◌*◌, ◌/◌, ◌<◌, ◌≤◌, length};
+ghost use Rattle.std.specs.Prelude.{◌≡◌, ◌++◌, ◌+◌, ◌*◌, ◌/◌, ◌<◌, ◌≤◌, length};
 ghost use Rattle.arrayvec.specs.ArrayVec.{array_vec_len};
 ghost use Rattle.text.specs.Page.{Adds};
 ghost use Rattle.text.specs.Numerals.{hex_digit, hex_of};
-ghost use Rattle.text.specs.Lines.{number_field, single_field, double_field, newline};
+ghost use Rattle.text.specs.Lines.{number_field, single_field, double_field, newline, number_fields};
 ghost use Rattle.text.specs.Lines.{plan_line, route_line, lane_line, point_line, advance_line, at_line, end_line, beside_line};
 ghost use Rattle.text.specs.Lines.{lane_lines, point_lines, position_line, position_lines, route_text, advance_text, beside_text};
 
@@ -35,6 +35,7 @@ fn hex_digit(d: u8) -> u8
 }
 
 // The last k hexadecimal digits of n: no Display states the digits that it writes.
+#[tactic(auto, using(crate::specs::Hex::length_hex), unfolding(crate::specs::Numerals::hex_of))]
 fn hex<const N: usize>(page: &mut ArrayVec<u8, N>, n: u64, k: u32)
     requires { (array_vec_len page.old + k ≤ N) × (k ≤ 16) }
     ensures { Adds (hex_of k n) k page.old page.new }
@@ -74,8 +75,20 @@ fn double_field<const N: usize>(page: &mut ArrayVec<u8, N>, x: f64)
     hex(page, float::to_bits(x), 16);
 }
 
+// A line of numbers alone.
+fn number_line<const N: usize>(page: &mut ArrayVec<u8, N>, name: &[u8], numbers: &[usize])
+    requires { array_vec_len page.old + length name.now + 21 * length numbers.now + 1 ≤ N }
+    ensures { Adds (name.now ++ number_fields numbers.now) (length name.now + 21 * length numbers.now + 1) page.old page.new }
+{
+    word(page, name);
+    for n in numbers {
+        number_field(page, *n);
+    }
+    line_feed(page);
+}
+
 // The plan line.
-#[tactic(auto, unfolding(crate::specs::Bytes::bytes, crate::specs::Lines::plan_line))]
+#[tactic(auto, unfolding(crate::specs::Bytes::bytes, crate::specs::Lines::number_fields, crate::specs::Lines::plan_line))]
 pub fn plan_text<const N: usize>(
     page: &mut ArrayVec<u8, N>,
     number: usize,
@@ -85,11 +98,7 @@ pub fn plan_text<const N: usize>(
     requires { array_vec_len page.old + 68 ≤ N }
     ensures { Adds (plan_line number lanes links) 68 page.old page.new }
 {
-    word(page, b"plan");
-    number_field(page, number);
-    number_field(page, lanes);
-    number_field(page, links);
-    line_feed(page);
+    number_line(page, b"plan", &[number, lanes, links]);
 }
 
 #[tactic(auto, unfolding(crate::specs::Bytes::bytes, crate::specs::Lines::route_line))]
@@ -111,16 +120,6 @@ fn route_line<const N: usize>(
     line_feed(page);
 }
 
-#[tactic(auto, unfolding(crate::specs::Bytes::bytes, crate::specs::Lines::lane_line))]
-fn lane_line<const N: usize>(page: &mut ArrayVec<u8, N>, n: usize)
-    requires { array_vec_len page.old + 26 ≤ N }
-    ensures { Adds (lane_line n) 26 page.old page.new }
-{
-    word(page, b"lane");
-    number_field(page, n);
-    line_feed(page);
-}
-
 #[tactic(auto, unfolding(crate::specs::Bytes::bytes, crate::specs::Lines::point_line))]
 fn point_line<const N: usize>(page: &mut ArrayVec<u8, N>, x: f32, y: f32, z: f32)
     requires { array_vec_len page.old + 33 ≤ N }
@@ -130,23 +129,6 @@ fn point_line<const N: usize>(page: &mut ArrayVec<u8, N>, x: f32, y: f32, z: f32
     single_field(page, x);
     single_field(page, y);
     single_field(page, z);
-    line_feed(page);
-}
-
-#[tactic(auto, unfolding(crate::specs::Bytes::bytes, crate::specs::Lines::advance_line))]
-fn advance_line<const N: usize>(
-    page: &mut ArrayVec<u8, N>,
-    number: usize,
-    keys: usize,
-    positions: usize,
-)
-    requires { array_vec_len page.old + 71 ≤ N }
-    ensures { Adds (advance_line number keys positions) 71 page.old page.new }
-{
-    word(page, b"advance");
-    number_field(page, number);
-    number_field(page, keys);
-    number_field(page, positions);
     line_feed(page);
 }
 
@@ -162,6 +144,7 @@ fn at_line<const N: usize>(page: &mut ArrayVec<u8, N>, n: usize, s: f64, offset:
     line_feed(page);
 }
 
+// Beside at_line, with one field more: a loop over the floats of either is no plainer than its two or three lines.
 #[tactic(auto, unfolding(crate::specs::Bytes::bytes, crate::specs::Lines::end_line))]
 fn end_line<const N: usize>(page: &mut ArrayVec<u8, N>, n: usize, s: f64, offset: f64, short: f64)
     requires { array_vec_len page.old + 76 ≤ N }
@@ -175,26 +158,18 @@ fn end_line<const N: usize>(page: &mut ArrayVec<u8, N>, n: usize, s: f64, offset
     line_feed(page);
 }
 
-#[tactic(auto, unfolding(crate::specs::Bytes::bytes, crate::specs::Lines::beside_line))]
-fn beside_line<const N: usize>(page: &mut ArrayVec<u8, N>, number: usize)
-    requires { array_vec_len page.old + 28 ≤ N }
-    ensures { Adds (beside_line number) 28 page.old page.new }
-{
-    word(page, b"beside");
-    number_field(page, number);
-    line_feed(page);
-}
-
+#[tactic(auto, using(crate::specs::Page::adds_none, crate::specs::Page::adds_more, crate::specs::Each::lane_lines_more), unfolding(crate::specs::Bytes::bytes, crate::specs::Lines::number_fields, crate::specs::Lines::lane_line, crate::specs::Lines::lane_lines))]
 fn lane_lines<const N: usize>(page: &mut ArrayVec<u8, N>, ns: &[usize])
     requires { array_vec_len page.old + 26 * length ns.now ≤ N }
     ensures { Adds (lane_lines ns.now (length ns.now)) (26 * length ns.now) page.old page.new }
 {
     for n in ns {
-        lane_line(page, *n);
+        number_line(page, b"lane", &[*n]);
     }
 }
 
 // Points of x, y and z.
+#[tactic(auto, using(crate::specs::Page::adds_none), unfolding(crate::specs::Lines::point_lines))]
 fn point_lines<const N: usize>(page: &mut ArrayVec<u8, N>, xs: &[f32])
     requires { array_vec_len page.old + 33 * (length xs.now / 3) ≤ N }
     ensures { Adds (point_lines xs.now (length xs.now / 3)) (33 * (length xs.now / 3)) page.old page.new }
@@ -226,6 +201,7 @@ fn position_line<const N: usize>(
 }
 
 // Positions of case and lane; s, offset and metres short.
+#[tactic(auto, using(crate::specs::Page::adds_none), unfolding(crate::specs::Lines::position_lines))]
 fn position_lines<const N: usize>(page: &mut ArrayVec<u8, N>, rows: &[usize], metres: &[f64])
     requires { (length rows.now / 2 ≡ length metres.now / 3) × (array_vec_len page.old + 76 * (length rows.now / 2) ≤ N) }
     ensures { Adds (position_lines rows.now metres.now (length rows.now / 2)) (76 * (length rows.now / 2)) page.old page.new }
@@ -256,7 +232,7 @@ pub fn route_text<const N: usize>(
 }
 
 // An advance's answer: its line and its positions.
-#[tactic(auto, unfolding(crate::specs::Lines::advance_text))]
+#[tactic(auto, unfolding(crate::specs::Bytes::bytes, crate::specs::Lines::number_fields, crate::specs::Lines::advance_line, crate::specs::Lines::advance_text))]
 pub fn advance_text<const N: usize>(
     page: &mut ArrayVec<u8, N>,
     number: usize,
@@ -268,12 +244,12 @@ pub fn advance_text<const N: usize>(
     ensures { Adds (advance_text number keys (length rows.now / 2) rows.now metres.now)
         (71 + 76 * (length rows.now / 2)) page.old page.new }
 {
-    advance_line(page, number, keys, rows.len() / 2);
+    number_line(page, b"advance", &[number, keys, rows.len() / 2]);
     position_lines(page, rows, metres);
 }
 
 // A beside's answer: its line and the position.
-#[tactic(auto, unfolding(crate::specs::Lines::beside_text))]
+#[tactic(auto, unfolding(crate::specs::Bytes::bytes, crate::specs::Lines::number_fields, crate::specs::Lines::beside_line, crate::specs::Lines::beside_text))]
 pub fn beside_text<const N: usize>(
     page: &mut ArrayVec<u8, N>,
     number: usize,
@@ -284,6 +260,6 @@ pub fn beside_text<const N: usize>(
     requires { array_vec_len page.old + 86 ≤ N }
     ensures { Adds (beside_text number n s offset) 86 page.old page.new }
 {
-    beside_line(page, number);
+    number_line(page, b"beside", &[number]);
     at_line(page, n, s, offset);
 }

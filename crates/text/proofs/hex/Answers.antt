@@ -1,6 +1,6 @@
 -- Each turn adds the first of the digits still to come.
-use Rattle.std.proofs.Common.{List, [], ◌++◌, ◌∷◌, ◌≡◌, ◌-◌, ℕ, ap, sym, ◌∙◌, append_assoc, append-nil, arith}
-use Rattle.text.specs.Hex.{hex_more, length_hex}
+use Rattle.std.proofs.Common.{List, [], ◌++◌, ◌∷◌, ◌-◌, ℕ, ap, sym, ◌∙◌, append_assoc, arith}
+use Rattle.text.specs.Hex.{hex_more}
 use Rattle.text.specs.Numerals.{hex_of}
 use Rattle.text.proofs.hex.Goals as goal
 
@@ -16,10 +16,3 @@ loop-i-preserved g c =
           ∙ c.loop-i.invariant.0,
       omega arith,
     )
-
-pub returns : goal.returns
-unfolding hex_of
-returns g c =
-    let none : c.loop-i.i ≡ 0 = omega arith in
-    let all = rw none at c.loop-i.invariant.0 in
-    record { adds = sym (append-nil c.loop-i.page.items) ∙ all; few = omega (arith, length_hex c.args.k c.args.n) }

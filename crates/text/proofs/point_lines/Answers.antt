@@ -1,13 +1,8 @@
 -- After i turns the first i lines stand there.
 use Rattle.std.proofs.Common.{arith}
 use Rattle.text.specs.Each.{point_lines_more}
-use Rattle.text.specs.Lines.{point_lines}
-use Rattle.text.specs.Page.{adds_more, adds_none}
+use Rattle.text.specs.Page.{adds_more}
 use Rattle.text.proofs.point_lines.Goals as goal
-
-pub loop-x-init : goal.loop-x-init
-unfolding point_lines
-loop-x-init g c = adds_none c.args.page.now
 
 pub loop-x-preserved : goal.loop-x-preserved
 loop-x-preserved g c =

@@ -2,13 +2,8 @@
 use Rattle.std.proofs.Common.{[], ◌∷◌, ◌≡◌, ◌+◌, ◌≤◌, ◌/◌, length, ap, ◌∙◌, arith, length-append, rules}
 use Rattle.std.proofs.lemmas.Slice.Zip.{zip_turn, zip_end}
 use Rattle.text.specs.Each.{position_lines_more}
-use Rattle.text.specs.Lines.{position_lines}
-use Rattle.text.specs.Page.{adds_length, adds_more, adds_none}
+use Rattle.text.specs.Page.{adds_length, adds_more}
 use Rattle.text.proofs.position_lines.Goals as goal
-
-pub loop-case-init : goal.loop-case-init
-unfolding position_lines
-loop-case-init g c = adds_none c.args.page.now
 
 pub position_line-requires : goal.position_line-requires
 position_line-requires g c =
