@@ -11,6 +11,7 @@ use Rattle.std.proofs.lemmas.List.{length-map, map-set}
 use Rattle.std.proofs.Math.Seq.{length-sets}
 use Rattle.std.proofs.lemmas.List.Edits.{sets}
 use Rattle.std.proofs.lemmas.Bool.{eqb-false}
+use Rattle.std.proofs.Props.{props}
 use Rattle.fields.specs.Fields.{u16_at, u8_at}
 use Rattle.plan_format.specs.Laws.{Each, Room, map_next, map_none}
 use Rattle.plan_format.specs.Tables.{rows}
@@ -39,6 +40,12 @@ picks q (k ∷ ks) j = cond (eqb k q) (j ∷ picks q ks (j + 1)) (picks q ks (j 
 unfoldable pub Chain : ℕ → List ℕ → ℕ → List ℕ → Type 0
 Chain n nx h [] = h ≡ 0
 Chain n nx h (j ∷ l) = (h ≡ j + 1) × (j < n) × Chain n nx (get_or nx j 0) l
+
+-- it does so in one way
+pub chain_prop : (n : ℕ) (nx : List ℕ) (h : ℕ) (l : List ℕ) → IsProp (Chain n nx h l)
+unfolding Chain
+chain_prop n nx h [] = hlevel props
+chain_prop n nx h (j ∷ l) = let r = chain_prop n nx (get_or nx j 0) l in hlevel (props, r)
 
 abbrev pub Chains : ℕ → List ℕ → List ℕ → List ℕ → ℕ → Type 0
 Chains n first nx ks j = (q : ℕ) → q < 768 → Chain n nx (get_or first q 0) (picks q ks j)
@@ -183,6 +190,9 @@ pub record Chained (s m links first nx : List ℕ) : Type 0 where
   pub next_size : length links ≤ length nx
   pub chains : Chains (length links) first nx (map (link_key s m) links) 0
 
+pub chained_prop : (s m links first nx : List ℕ) → IsProp (Chained s m links first nx)
+chained_prop s m links first nx = hlevel (props, chain_prop (length links) nx)
+
 -- what is left of a chain, with n links written
 pub record Writing (s m links nx : List ℕ) (start : ℕ) (all old out : List ℕ) (h n : ℕ) : Type 0 where
   pub rest : List ℕ
@@ -193,9 +203,6 @@ pub record Writing (s m links nx : List ℕ) (start : ℕ) (all old out : List �
   pub size : length out ≡ length old
 
 module _ (s m links nx : List ℕ) (start : ℕ) (all old : List ℕ) where
-  pub write_start : (h : ℕ) → Chain (length links) nx h all → Writing s m links nx start all old old h 0
-  write_start h C = record { rest = all; chain = C; count = omega arith; same = let e : start + 0 ≡ start = omega arith in rw e; size = refl }
-
   module _ (out : List ℕ) (h n : ℕ) (P : Writing s m links nx start all old out h n) where
     in_by : (l : List ℕ) → Chain (length links) nx h l → n + length l ≡ length all → 0 < h → (h - 1 < length links) × (n < length all)
     unfolding Chain
@@ -242,12 +249,6 @@ module _ (s m links nx : List ℕ) (start : ℕ) (all old : List ℕ) where
 
     pub write_end : h ≤ 0 → (n ≡ length all) × (out ≡ sets old (2 * start) (rows (row_by s m) (map (start_at links) all)))
     write_end = end_by P.rest P.chain P.count P.same
-
--- a list of zeros
-pub get_or_zeros : (n q : ℕ) → ◌≡◌ {A = ℕ} (get_or (replicate n 0) q 0) 0
-get_or_zeros zero q = refl
-get_or_zeros (suc n) zero = refl
-get_or_zeros (suc n) (suc q) = get_or_zeros n q
 
 pub heads_none : (n q : ℕ) → get_or (heads (replicate n None)) q 0 ≡ 0
 heads_none zero q = refl

@@ -5,7 +5,6 @@ use Prim.Native.Nat.{ℕ, ◌*◌, ◌+◌, ◌<◌, ◌≤◌}
 use native.Mathlib.Omega.{arith}
 use Rattle.std.proofs.Math.ListN.{get_or, length}
 use Rattle.std.proofs.lemmas.List.{length-map}
-use Rattle.std.proofs.Math.Seq.{length-sets}
 use Rattle.std.proofs.lemmas.List.Edits.{sets}
 use Rattle.fields.specs.Fields.{u16_at}
 use Rattle.lists.specs.Filling.{Filling, fill_many}
@@ -31,9 +30,6 @@ module _ (s m links : List ℕ) where
   rows_of_length q =
       rows_length (row_by s m) 2 (λ p. refl) (map (start_at links) (links_of s m links q)) ∙ ap (λ (n : ℕ). 2 * n)
       (length-map (links_of s m links q) (start_at links))
-
-  pub sets_long : (n : ℕ) (old new : List ℕ) (k q : ℕ) → new ≡ sets old k (rows_of s m links q) → n ≤ length old → n ≤ length new
-  sets_long n old new k q e h = let z = ap length e ∙ length-sets old k (rows_of s m links q) in omega arith
 
   -- there is room for the links of the i-th lane
   pub group_room : (i : ℕ) → length links ≤ 2048

@@ -1,11 +1,8 @@
 -- What the contracts of `Links` say of its fields, in the words of Chains and Groups.
 use Rattle.std.specs.Prelude.{List, ℕ}
 use Rattle.plan_links.specs.declared.Links.{Links}
-use Rattle.plan_links.specs.Chains.{Chained, heads, links_of, rows_of}
+use Rattle.plan_links.specs.Chains.{links_of, rows_of}
 use Rattle.plan_links.specs.Groups.{fans_in, groups_in}
-
-abbrev pub IsChained : Links → Type 0
-IsChained l = Chained l.file.now l.index.now l.starts.now (heads l.first) (heads l.next)
 
 -- the links of one lane and role, and their rows
 abbrev pub kept : Links → ℕ → List ℕ

@@ -6,17 +6,20 @@ ghost use Rattle.std.specs.Prelude.{◌≡◌, map, ◌+◌, ◌*◌, ◌≤◌,
 ghost use Rattle.std.proofs.lemmas.List.Edits.{sets};
 ghost use Rattle.plan_format.specs.Laws.{Each, Room};
 ghost use Rattle.plan_format.specs.Records.{link_at};
+ghost use Rattle.plan_format.specs.Roles.{role_number};
 ghost use Rattle.plan_format.specs.Tables.{over, rows, rows_from, group, fan_row, link_count};
+ghost use Rattle.plan_scan.specs.Parts.{Roled};
 ghost use Rattle.plan_whole.specs.Keys.{key_at, Listed};
-ghost use Rattle.plan_links.specs.Chains.{Keyed};
+ghost use Rattle.plan_links.specs.Chains.{Chained, Keyed, chained_prop, heads};
 ghost use Rattle.plan_links.specs.Linked.{Linkable};
 
 use fields::{u8_at, u16_at};
+use plan_format::Role;
 use plan_rows::put_row;
 use plan_whole::{index_numbers, lane_row};
 
 // The links of a file as chains: for each lane and role the first link, and for each link the next of its lane and role.
-// `starts` has where each link starts, `index` the row of each lane number.
+// `starts` has where each link starts, `index` the row of each lane number. Arrays, since there is no heap: an entry for each chain and each link.
 #[derive(Drop)]
 struct Links<'a> {
     file: &'a [u8],
@@ -24,25 +27,35 @@ struct Links<'a> {
     index: &'a [u16],
     first: [Option<u16>; 768],
     next: [Option<u16>; 2048],
+    ghost chained: { Chained file.now index.now starts.now (heads first) (heads next) } by { chained_prop file.now index.now starts.now (heads first) (heads next) },
+}
+
+// The number of the chain of a lane's links of one role.
+fn chain(lane: usize, role: Role) -> usize
+    requires { lane < 256 }
+    ensures { (result ≡ 3 * lane + role_number role) × (result < 768) }
+{
+    3 * lane + role as usize
 }
 
 impl<'a> Links<'a> {
-    ghost use Rattle.plan_links.specs.Kept.{IsChained, kept, kept_rows, grouped, fanned};
+    ghost use Rattle.plan_links.specs.Kept.{kept, kept_rows, grouped, fanned};
 
     fn new(file: &'a [u8], starts: &'a [usize], index: &'a [u16]) -> Self
         requires { Each (Room 11 file.now) starts.now
             × (length starts.now ≤ 2048)
+            × Each (Roled file.now) starts.now
             × Each (Keyed file.now index.now) starts.now
             × (length index.now ≡ 65536) }
-        ensures { (result.file.now ≡ file.now) × (result.starts.now ≡ starts.now) × (result.index.now ≡ index.now)
-            × IsChained result }
+        ensures { (result.file.now ≡ file.now) × (result.starts.now ≡ starts.now) × (result.index.now ≡ index.now) }
     {
         let mut first = [None; 768];
         let mut next = [None; 2048];
         for j in (0..starts.len()).rev() {
             let at = starts[j];
             let lane = lane_row(file, at, index).unwrap();
-            let q = 3 * lane + u8_at(file, at + 8);
+            let role = Role::try_from(u8_at(file, at + 8)).unwrap();
+            let q = chain(lane, role);
             next[j] = first[q];
             first[q] = Some(j as u16);
         }
@@ -55,10 +68,9 @@ impl<'a> Links<'a> {
         }
     }
 
-    // Writes the rows of the links of the lane and role q, from the row `start` on; answers how many.
+    // Writes the rows of the links of the chain q, from the row `start` on; answers how many.
     fn write(&self, q: usize, out: &mut [usize], start: usize) -> usize
-        requires { IsChained self.now
-            × (q < 768)
+        requires { (q < 768)
             × (start + length (kept self.now q) ≤ 2048)
             × (4096 ≤ length out.old) }
         ensures { (result ≡ length (kept self.now q))
@@ -83,7 +95,6 @@ impl<'a> Links<'a> {
     fn group(&self, lanes: &[usize], placed: &[u16], out: &mut [usize], fans: &mut [usize])
         requires { Listed self.now.file.now lanes.now 256
             × (length placed.now ≡ 65536)
-            × IsChained self.now
             × (4096 ≤ length out.old)
             × (1280 ≤ length fans.old) }
         ensures { (out.new ≡ over (grouped self.now lanes.now) out.old)
@@ -92,11 +103,11 @@ impl<'a> Links<'a> {
         let mut k = 0;
         for (i, &at) in lanes.iter().enumerate() {
             let first = k;
-            let a = self.write(3 * i, out, k);
+            let a = self.write(chain(i, Role::Successor), out, k);
             k += a;
-            let b = self.write(3 * i + 1, out, k);
+            let b = self.write(chain(i, Role::Predecessor), out, k);
             k += b;
-            let c = self.write(3 * i + 2, out, k);
+            let c = self.write(chain(i, Role::Neighbour), out, k);
             k += c;
             let place = lane_row(self.file, at, placed).unwrap_or(256);
             let row = [first, a, b, c, place];
@@ -129,6 +140,7 @@ pub fn load_links(
         (link_count (map (link_at file.now) ks.now)) 0 (map (key_at file.now 0) ls.now))
         fans.old) }
 {
+    // an entry for each number that a lane can have
     let mut placed = [0u16; 65536];
     index_numbers(file, ps, &mut placed);
     Links::new(file, ks, index).group(ls, &placed, links, fans);

@@ -10,7 +10,7 @@ new-requires c =
     let a = c.args in
     let bytes : Bytes a.file.now = (λ i. omega (arith, c.type_inv.file i)) in
     let L = c.requires.0 in
-    (L.link, L.links, keyed a.file.now a.ls.now a.ks.now a.ps.now a.index.now bytes L, L.index.size)
+    (L.link, L.links, L.role, keyed a.file.now a.ls.now a.ks.now a.ps.now a.index.now bytes L, L.index.size)
 
 pub returns : goal.returns
 returns c =

@@ -16,13 +16,13 @@ pub bounds-self-j : goal.bounds-self-j
 bounds-self-j c = (link_there (goal.at.bounds-self-j c).In-Some).0
 
 pub u16_at-to-requires : goal.u16_at-to-requires
-u16_at-to-requires c = let h = link_there (goal.at.u16_at-to-requires c).In-Some in omega (arith, c.requires.0.link c.in-Some.j h.0)
+u16_at-to-requires c = let h = link_there (goal.at.u16_at-to-requires c).In-Some in omega (arith, c.args.self.now.chained.link c.in-Some.j h.0)
 
 pub put_row-requires : goal.put_row-requires
-put_row-requires c = let h = link_there (goal.at.put_row-requires c).In-Some in omega (arith, c.requires.2, c.requires.3, c.loop-link.auto.out, h.1)
+put_row-requires c = let h = link_there (goal.at.put_row-requires c).In-Some in omega (arith, c.requires.1, c.requires.2, c.loop-link.auto.out, h.1)
 
 pub bounds-self-j-in-Some : goal.bounds-self-j-in-Some
-bounds-self-j-in-Some c = let h = link_there (goal.at.bounds-self-j-in-Some c).In-Some in omega (arith, c.requires.0.links_count, h.0)
+bounds-self-j-in-Some c = let h = link_there (goal.at.bounds-self-j-in-Some c).In-Some in omega (arith, c.args.self.now.chained.links_count, h.0)
 
 pub loop-link-smaller : goal.loop-link-smaller
 loop-link-smaller c = let h = link_there (goal.at.loop-link-smaller c).In-Some in omega (arith, h.1)
