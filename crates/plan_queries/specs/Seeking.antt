@@ -1,14 +1,12 @@
 -- The walk to the next query, as a loop: what is left of it gives what the whole gives.
-use Rattle.std.specs.Prelude.{Bool, Some, None, cond, false, true, List, refl, ◌≡◌, suc, zero, ℕ, ◌+◌, ◌-◌, ◌≤◌, eqb, leb, length}
-use Rattle.std.proofs.Common.{arith, eqb-true, leb-true, ne_eqb}
-use Rattle.std.proofs.lemmas.Bool.{eqb-false}
+use Rattle.std.specs.Prelude.{Bool, Some, None, cond, false, true, List, refl, ◌≡◌, suc, zero, ℕ, ◌+◌, ◌-◌, ◌≤◌, leb, length}
+use Rattle.std.proofs.Common.{arith, leb-true}
 use Rattle.fields.specs.Fields.{u16_at, u32_at}
 use Rattle.plan_format.specs.Laws.{and_snd}
 use Rattle.plan_format.specs.Plan.{fits}
 use Rattle.plan_format.specs.Queries.{first_query, is_query, next_query, whole}
 use Rattle.plan_format.specs.Records.{query_at}
 use Rattle.plan_format.specs.declared.Query.{Query}
-use Rattle.plan_scan.specs.Sizes.{advance_size, beside_size}
 
 pub whole_room : (s : List ℕ) (at : ℕ) → whole s at ≡ true → at + 6 + u32_at s at ≤ length s
 unfolding whole
@@ -67,15 +65,3 @@ module _ (s : List ℕ) (first at : ℕ) (S : Seeking s first at) where
 
     pub seek_next : is_query kind ≡ false → Seeking s first (at + 6 + size)
     seek_next e = record { fuel = S.fuel - 1; enough = omega (arith, S.enough); same = rw e at step }
-
--- what is no query of kind 16 or 17 is of kind 18
-pub last_kind : (kind : ℕ) → is_query kind ≡ true → (kind ≡ 16 → ⊥) → (kind ≡ 17 → ⊥) → kind ≡ 18
-last_kind kind e h g = eqb-true kind 18 (simp (ne_eqb kind 16 h, ne_eqb kind 17 g) at e)
-
--- the length of an advance or beside record
-pub later_size : (s : List ℕ) (at kind size : ℕ) → fits s at kind size ≡ true → is_query kind ≡ true → (kind ≡ 16 → ⊥) → 11 ≤ size
-later_size s at kind size f e h = go (eqb kind 17) refl
-  where
-    go : (b : Bool) → eqb kind 17 ≡ b → 11 ≤ size
-    go true q = let z = advance_size s at kind size f (eqb-true kind 17 q) in omega arith
-    go false q = let z = beside_size s at kind size f (last_kind kind e h (eqb-false kind 17 q)) in omega arith

@@ -16,12 +16,7 @@ use plan_scan::size_fits;
 fn query_kind(number: usize) -> Option<Kind>
     ensures { MatchOption result (is_query number ≡ false) (λ kind. (kind_number kind ≡ number) × (is_query number ≡ true)) }
 {
-    match number {
-        16 => Some(Kind::Route),
-        17 => Some(Kind::Advance),
-        18 => Some(Kind::Beside),
-        _ => None,
-    }
+    Kind::try_from(number).ok().filter(|kind| kind.is_query())
 }
 
 // How long the payload of the record at `at` is, where a whole record starts there.

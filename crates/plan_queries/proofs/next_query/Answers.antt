@@ -14,11 +14,6 @@ loop-size-preserved c =
     seek_next c.args.file.now c.args.first c.loop-size.at c.loop-size.invariant w.1 c.u16_at.result c.in-Some.size kind w.0
     c.in-None.ensures
 
-pub query_at-requires : goal.query_at-requires
-query_at-requires c =
-    let k = c.in-Some-query_kind.ensures in
-    (c.in-Some.ensures.2, k.0 ∙ c.u16_at.ensures.0, sym c.size_fits.ensures ∙ c.if-size_fits.true, ap is_query k.0 ∙ k.1)
-
 pub returns-in-Some-query_kind : goal.returns-in-Some-query_kind
 returns-in-Some-query_kind c =
     let w = c.in-Some.ensures in
