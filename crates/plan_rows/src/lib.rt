@@ -1,5 +1,6 @@
 // The tables that have a row for each lane, section or place of an accepted file; each is written front to back once.
-// The lists `lanes`, `sections`, `places` have where the records of each kind start.
+// The lists `lanes`, `sections`, `places` have where the records of each kind start. Each function asks of its own list what it reads
+// (`Listed`, `Each`, `Room`): a struct of the file and a list would be no plainer, since every clause would name both through it.
 #![tactic(auto)]
 
 ghost use Rattle.std.specs.Prelude.{◌≡◌, [], map, ◌+◌, ◌*◌, ◌≤◌, ◌<◌, length, get_or, ℕ, List, Float};

@@ -64,6 +64,7 @@ pub fn pair(file: &[u8], at: usize) -> usize
 }
 
 // An OpenDRIVE lane number plus 2^31.
+#[tactic(auto, unfolding(plan_format::specs::Records::raised_at))]
 pub fn raised(file: &[u8], at: usize) -> usize
     requires { at + 4 ≤ length file.now }
     ensures { (result ≡ raised_at file.now at) × (result < 4294967296) }
@@ -77,6 +78,7 @@ pub fn raised(file: &[u8], at: usize) -> usize
 
 impl Key {
     // The key of the record at `at`.
+    #[tactic(auto, unfolding(crate::specs::Keys::key_at))]
     fn of(self, file: &[u8], at: usize) -> usize
         requires { at + 16 ≤ length file.now }
         ensures { result ≡ key_at file.now (which self) at }
@@ -89,7 +91,8 @@ impl Key {
     }
 }
 
-// The keys of the records of a part.
+// The keys of the records of a part. One by one, since `collect` into an `ArrayVec` answers a `Result`.
+// Here and below a file and a list with `Listed`: a struct of the two would be no plainer, since every clause would name both through it.
 pub fn keys<const N: usize>(file: &[u8], part: &[usize], kind: Key) -> ArrayVec<usize, N>
     requires { Listed file.now part.now N }
     ensures { result.items ≡ map (key_at file.now (which kind)) part.now }
@@ -217,6 +220,7 @@ impl<'a> Numbered<'a> {
 
 impl<'a> Records<'a> {
     // Number 7.
+    #[tactic(auto, unfolding(crate::specs::Keys::twice_in))]
     fn any_twice(&self) -> bool
         ensures { result ≡ twice_in self.now.file.now self.now.lanes.now self.now.sections.now self.now.places.now }
     {

@@ -1,10 +1,7 @@
 -- What is left of the keys has k where all have it.
-use Rattle.std.proofs.Common.{arith, refl, sym, ◌∙◌, eq-eqb, ne_eqb}
+use Rattle.std.proofs.Common.{arith, sym, ◌∙◌, eq-eqb, ne_eqb}
 use Rattle.plan_whole.specs.Missing.{index_end, index_here, index_later}
 use Rattle.plan_whole.proofs.find.Goals as goal
-
-pub loop-i-init : goal.loop-i-init
-loop-i-init c d = refl
 
 pub returns-then-keys-i-clause-place : goal.returns-then-keys-i-clause-place
 returns-then-keys-i-clause-place c d =

@@ -40,15 +40,6 @@ offset_bounds-self-lane c =
     (row_is r.file.now r.lanes.now c.args.self.now.rows.now c.args.at c.in-Some.lane c.args.self.now.by_number (n.row, n.number)) n.found in
     omega (arith, within, r.parts.lanes)
 
-pub bounds-self-section : goal.bounds-self-section
-bounds-self-section c = rw (c.requires.1, length-map) at c.in-Some-find.ensures.within
-
-pub u16_at-requires-2 : goal.u16_at-requires-2
-u16_at-requires-2 c =
-    let r = c.args.self.now.records in
-    let l : c.in-Some-find.section < length r.sections.now = rw (c.requires.1, length-map) at c.in-Some-find.ensures.within in
-    omega (arith, r.parts.section c.in-Some-find.section l)
-
 pub returns : goal.returns
 returns c =
     let a = c.args in
