@@ -27,7 +27,7 @@ struct Links<'a> {
     index: &'a [u16],
     first: [Option<u16>; 768],
     next: [Option<u16>; 2048],
-    ghost chained: { Chained file.now index.now starts.now (heads first) (heads next) } by { chained_prop file.now index.now starts.now (heads first) (heads next) },
+    ghost chained: { Chained file.now index.now starts.now (heads first) (heads next) } by { chained_prop _ _ _ _ _ },
 }
 
 // The number of the chain of a lane's links of one role.
