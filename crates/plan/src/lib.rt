@@ -151,6 +151,7 @@ pub fn read_plan(
         return Err(Refusal::ShortTable);
     }
     let mut starts = RecordStarts::new();
+    // an entry for each number that a lane can have
     let mut index = [0u16; 65536];
     let counts = check(file, side, &mut starts, &mut index)?;
     load(

@@ -15,9 +15,6 @@ returns-in_err-counts c =
     rw (p.1, p.2)
     (checked_stopped c.args.side c.args.file.now _ _ _ _ (refusal_number e) c.in_err-counts.ensures c.if-file-gt65536.false)
 
-pub check_whole-requires : goal.check_whole-requires
-check_whole-requires c = (standing c.args.file.now _ _ refl c.in_ok-counts.ensures c.if-file-gt65536.false, c.requires)
-
 pub returns-in_err-check_whole : goal.returns-in_err-check_whole
 returns-in_err-check_whole c =
     let p = err_from_is_err_and c.from_residual-in_err-check_whole.result c.from_residual-in_err-check_whole.ensures.1 in
