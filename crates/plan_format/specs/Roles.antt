@@ -16,7 +16,11 @@ role_of n = cond (eqb n 0) (Ok Successor) (cond (eqb n 1) (Ok Predecessor) (cond
 
 no_role : (n : ℕ) → 2 < n → role_of n ≡ Err OutOfRange
 no_role n h =
-    rw (ne_eqb n 0 (λ (e : n ≡ 0). absurd (omega arith)), ne_eqb n 1 (λ (e : n ≡ 1). absurd (omega arith)), ne_eqb n 2 (λ (e : n ≡ 2). absurd (omega arith)))
+    rw (
+      ne_eqb n 0 (λ (e : n ≡ 0). absurd (omega arith)),
+      ne_eqb n 1 (λ (e : n ≡ 1). absurd (omega arith)),
+      ne_eqb n 2 (λ (e : n ≡ 2). absurd (omega arith)),
+    )
     refl
 
 pub role_known : (n : ℕ) (r : Role) → role_of n ≡ Ok r → role_number r ≡ n

@@ -139,6 +139,7 @@ fn repeats_key(file: &[u8], part: &[usize], kind: Key) -> bool
 
 // The rows of lanes by their numbers, or of places by their lanes'. Backwards, so that the first with a number stays.
 // An entry is 256 where there is no row, since the tables for C are written with the entries as they stand.
+// Here and below a slice with its length in the contract: an array's type would ask more of a caller.
 pub fn index_numbers(file: &[u8], part: &[usize], rows: &mut [u16])
     requires { Listed file.now part.now 256 × (length rows.old ≡ 65536) }
     ensures { ByNumber rows.new (map (key_at file.now 0) part.now) 0 }
