@@ -32,6 +32,7 @@ impl Aabb {
     }
 
     // This box with the point (x, y) taken in: one step of the Rust's `around`.
+    #[tactic(auto, unfolding(crate::specs::Grid::grown))]
     pub fn grown(self, x: f32, y: f32) -> Aabb
         ensures { result ≡ grown self x y }
     {
@@ -56,6 +57,7 @@ impl Aabb {
     }
 
     // The box around this one and another.
+    #[tactic(auto, unfolding(crate::specs::Grid::merge))]
     pub fn merge(self, other: Aabb) -> Aabb
         ensures { result ≡ merge self other }
     {
@@ -68,6 +70,7 @@ impl Aabb {
     }
 
     // Squared distance from (x, y) to this box; zero inside it.
+    #[tactic(auto, unfolding(crate::specs::Grid::dist2))]
     pub fn dist2(self, x: f32, y: f32) -> f32
         ensures { result ≡ dist2 self x y }
     {
@@ -78,6 +81,7 @@ impl Aabb {
 }
 
 // How far v is outside of low .. high.
+#[tactic(auto, unfolding(crate::specs::Grid::outside))]
 fn outside(low: f32, high: f32, v: f32) -> f32
     ensures { result ≡ outside low high v }
 {
@@ -103,6 +107,14 @@ pub struct Cell {
     pub iy: usize,
 }
 
+// The cells that are r columns or rows away from a cell, and none that is more.
+#[derive(Clone, Copy)]
+pub struct Ring {
+    pub center: Cell,
+    pub r: usize,
+    pub ghost near: { (center.ix < 1024) × (center.iy < 1024) × (r ≤ 1024) },
+}
+
 // The numbers first, first + step, .. below end.
 #[repr(C)]
 #[derive(Clone, Copy)]
@@ -126,6 +138,7 @@ impl Grid {
     };
 
     // The grid of `items` boxes that lie within `extent`.
+    #[tactic(auto, unfolding(crate::specs::Grid::grid_of))]
     pub fn build(extent: Aabb, items: usize) -> Grid
         ensures { result ≡ grid_of extent items }
     {
@@ -162,46 +175,49 @@ impl Grid {
         bucket(y - self.min_y, self.cell, self.rows)
     }
 
-    // The rows of ring r about row cy, from low to high.
-    pub fn ring_rows(self, cy: usize, r: usize) -> Run
-        requires { (cy < 1024) × (r ≤ 1024) }
-        ensures { result ≡ near_run cy r self.rows }
+    // The rows of a ring, from low to high.
+    pub fn ring_rows(self, ring: Ring) -> Run
+        ensures { result ≡ near_run ring.center.iy ring.r self.rows }
     {
-        near(cy, r, self.rows)
+        near(ring.center.iy, ring.r, self.rows)
     }
 
-    // The columns of ring r about the cell (cx, cy) in row iy: the first and the last row of a ring have all of theirs, a row between
-    // them its two ends.
-    pub fn ring_columns(self, cx: usize, cy: usize, r: usize, iy: usize) -> Run
-        requires { (cx < 1024) × (cy < 1024) × (r ≤ 1024) × (iy < 1024) }
-        ensures { result ≡ columns_run cx cy r self.cols iy }
+    // The columns of a ring in row iy: the first and the last row have all of theirs, a row between them its two ends.
+    pub fn ring_columns(self, ring: Ring, iy: usize) -> Run
+        requires { iy < 1024 }
+        ensures { result ≡ columns_run ring.center.ix ring.center.iy ring.r self.cols iy }
     {
-        if iy + r == cy || iy == cy + r {
-            near(cx, r, self.cols)
+        let Cell { ix, iy: center } = ring.center;
+        if iy + ring.r == center || iy == center + ring.r {
+            near(ix, ring.r, self.cols)
         } else {
-            ends(cx, r, self.cols)
+            ends(ix, ring.r, self.cols)
         }
     }
 
-    // Whether ring r about the cell (cx, cy) has no cell of the grid.
-    pub fn outgrown(self, cx: usize, cy: usize, r: usize) -> bool
-        requires { Inside self cx cy × (cx < 1024) × (cy < 1024) × (r ≤ 1024) }
-        ensures { result ≡ is_empty (ring_of self.cols self.rows cx cy r) }
+    // Whether a ring has no cell of the grid.
+    #[tactic(auto, using(crate::proofs::Rings::left_inside, crate::proofs::Rings::right_inside, crate::proofs::Rings::bottom_inside))]
+    pub fn outgrown(self, ring: Ring) -> bool
+        requires { Inside self ring.center.ix ring.center.iy }
+        ensures { result ≡ is_empty (ring_of self.cols self.rows ring.center.ix ring.center.iy ring.r) }
     {
-        if r <= cx {
+        let Cell { ix, iy } = ring.center;
+        let r = ring.r;
+        if r <= ix {
             return false;
         }
-        if cx + r < self.cols {
+        if ix + r < self.cols {
             return false;
         }
-        if r <= cy {
+        if r <= iy {
             return false;
         }
-        self.rows <= cy + r
+        self.rows <= iy + r
     }
 
     // Whether nothing in ring r or beyond can be nearer than the squared distance d2: those cells are r - 1 whole cells away from the
     // query's own.
+    #[tactic(auto, unfolding(crate::specs::Ring::reached_at))]
     pub fn reached(self, r: usize, d2: f32) -> bool
         ensures { result ≡ reached_at self r d2 }
     {
@@ -211,6 +227,7 @@ impl Grid {
 }
 
 // The first cell size: of so many cells that each gets two items.
+#[tactic(auto, unfolding(crate::specs::Grid::first_cell))]
 fn first_cell(w: f32, h: f32, items: usize) -> f32
     ensures { result ≡ first_cell w h items }
 {
@@ -223,6 +240,7 @@ fn first_cell(w: f32, h: f32, items: usize) -> f32
 }
 
 // How many cells `cells` of them are, rounded up, from 1 to MAX_DIM.
+#[tactic(auto, unfolding(crate::specs::Grid::side))]
 fn side(cells: f32) -> usize
     ensures { result ≡ side cells }
 {
@@ -231,6 +249,7 @@ fn side(cells: f32) -> usize
 
 // The cell that holds `offset`, of `count` cells: NaN and negatives go to 0, the last cell takes what is above.
 // Rust's `floor` and its tests before the cast change nothing (proofs/Buckets.antt).
+#[tactic(auto, using(crate::proofs::Buckets::bucket_is))]
 pub fn bucket(offset: f32, cell: f32, count: usize) -> usize
     requires { 0 < count }
     ensures { result ≡ bucket offset cell count }
