@@ -19,7 +19,7 @@ ghost use Rattle.network.specs.Nearest.{offered, offered_in, visit_cell, visit_r
 
 use coords::Point;
 use geometry::Projection;
-use grid::{Aabb, Cell, Grid, Run};
+use grid::{Aabb, Cell, Grid, Ring, Run};
 
 // Segments of a lane's centerline per indexed span.
 const SPAN_SEGMENTS: usize = 4;
@@ -405,19 +405,19 @@ impl<'a> Spans<'a> {
         b
     }
 
-    // The cells of ring r about a cell, row by row.
-    fn visit_ring(&self, p: Point, center: Cell, r: usize, best: Option<Nearest>) -> Option<Nearest>
-        requires { Sides self.now.index.grid × Inside self.now.index.grid center.ix center.iy × (r ≤ 1024) }
+    // The cells of a ring, row by row.
+    fn visit_ring(&self, p: Point, ring: Ring, best: Option<Nearest>) -> Option<Nearest>
+        requires { Sides self.now.index.grid × Inside self.now.index.grid ring.center.ix ring.center.iy }
         ensures { best_in self.now result
             ≡ visit_ring p (items_of self.now)
-            (ring_of self.now.index.grid.cols self.now.index.grid.rows center.ix center.iy r)
+            (ring_of self.now.index.grid.cols self.now.index.grid.rows ring.center.ix ring.center.iy ring.r)
             (best_in self.now best) }
     {
         let g = self.index.grid;
-        let rows = g.ring_rows(center.iy, r);
+        let rows = g.ring_rows(ring);
         let mut b = best;
         for iy in rows.first..rows.end {
-            b = self.visit_row(p, iy, g.ring_columns(center.ix, center.iy, r, iy), b);
+            b = self.visit_row(p, iy, g.ring_columns(ring, iy), b);
         }
         b
     }
@@ -438,10 +438,11 @@ impl<'a> Spans<'a> {
             if enough(g, r, best) {
                 return best;
             }
-            if g.outgrown(center.ix, center.iy, r) {
+            let ring = Ring { center, r };
+            if g.outgrown(ring) {
                 return best;
             }
-            best = self.visit_ring(p, center, r, best);
+            best = self.visit_ring(p, ring, best);
         }
         best
     }

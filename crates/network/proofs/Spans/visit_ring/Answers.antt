@@ -18,7 +18,7 @@ loop-iy-preserved c =
       l.invariant.0,
       l.invariant.1,
       omega arith,
-      ring_next a.p its a.center.ix a.center.iy a.r g.cols c.ring_rows-rows.result.end l.iy
+      ring_next a.p its a.ring.center.ix a.ring.center.iy a.ring.r g.cols c.ring_rows-rows.result.end l.iy
           c.ring_columns.result (best_of s.lanes.now s.points.now l.b) _ _
           c.loop-iy-test.true l.invariant.2 (omega arith) c.ring_columns.ensures c.visit_row-b.ensures
           l.invariant.3,
@@ -32,8 +32,8 @@ returns c =
     let g = s.index.grid in
     let its = item_list s.lanes.now s.points.now s.spans.now s.boxes.now s.index s.index.count 0 in
     let b = best_of s.lanes.now s.points.now a.best in
-    ring_end a.p its a.center.ix a.center.iy a.r g.cols c.ring_rows-rows.result.end l.iy
+    ring_end a.p its a.ring.center.ix a.ring.center.iy a.ring.r g.cols c.ring_rows-rows.result.end l.iy
     (best_of s.lanes.now s.points.now l.b) _ c.loop-iy-test.false l.invariant.3
-    ∙ ap (λ (w : Run). visit_ring a.p its (ring_rows a.center.ix a.center.iy a.r g.cols (steps w.first 1 w.end)) b)
+    ∙ ap (λ (w : Run). visit_ring a.p its (ring_rows a.ring.center.ix a.ring.center.iy a.ring.r g.cols (steps w.first 1 w.end)) b)
     c.ring_rows-rows.ensures
-    ∙ ring_whole a.p its g.cols g.rows a.center.ix a.center.iy a.r b
+    ∙ ring_whole a.p its g.cols g.rows a.ring.center.ix a.ring.center.iy a.ring.r b
