@@ -73,6 +73,7 @@ impl Real for f32 {
         self < y
     }
 
+    #[tactic(auto, using(crate::proofs::Nans::zero_over_zero, crate::proofs::Nans::nan_above, crate::proofs::Nans::no_nan_below))]
     fn from_bits(b: u32) -> f32 {
         if 0x7f80_0000 < b % 0x8000_0000 {
             return 0.0 / 0.0;
@@ -80,6 +81,7 @@ impl Real for f32 {
         f32::from_bits(b)
     }
 
+    #[tactic(auto, using(crate::proofs::Nans::nan_by, crate::proofs::Nans::no_nan, crate::proofs::Nans::nan_bits_law))]
     fn to_bits(self) -> u32 {
         if self != self {
             return 0x7fc0_0000;
@@ -87,6 +89,7 @@ impl Real for f32 {
         f32::to_bits(self)
     }
 
+    #[tactic(auto, using(crate::proofs::Nans::no_nan, crate::proofs::Signs::nan_sign, crate::proofs::Signs::sign_bit))]
     fn is_sign_negative(self) -> bool {
         if self != self {
             return false;
@@ -94,6 +97,7 @@ impl Real for f32 {
         0x8000_0000 <= f32::to_bits(self)
     }
 
+    #[tactic(auto, using(crate::proofs::Nans::no_nan, crate::proofs::Signs::abs_of_bits, crate::proofs::Signs::abs_no_nan_bits))]
     fn abs(self) -> f32 {
         if self != self {
             return self;
@@ -131,6 +135,7 @@ impl Real for f64 {
         self < y
     }
 
+    #[tactic(auto, using(crate::proofs::Nans::zero_over_zero, crate::proofs::Nans::nan_above, crate::proofs::Nans::no_nan_below))]
     fn from_bits(b: u64) -> f64 {
         if 0x7ff0_0000_0000_0000 < b % 0x8000_0000_0000_0000 {
             return 0.0 / 0.0;
@@ -138,6 +143,7 @@ impl Real for f64 {
         f64::from_bits(b)
     }
 
+    #[tactic(auto, using(crate::proofs::Nans::nan_by, crate::proofs::Nans::no_nan, crate::proofs::Nans::nan_bits_law))]
     fn to_bits(self) -> u64 {
         if self != self {
             return 0x7ff8_0000_0000_0000;
@@ -145,6 +151,7 @@ impl Real for f64 {
         f64::to_bits(self)
     }
 
+    #[tactic(auto, using(crate::proofs::Nans::no_nan, crate::proofs::Signs::nan_sign, crate::proofs::Signs::sign_bit))]
     fn is_sign_negative(self) -> bool {
         if self != self {
             return false;
@@ -152,6 +159,7 @@ impl Real for f64 {
         0x8000_0000_0000_0000 <= f64::to_bits(self)
     }
 
+    #[tactic(auto, using(crate::proofs::Nans::no_nan, crate::proofs::Signs::abs_of_bits, crate::proofs::Signs::abs_no_nan_bits))]
     fn abs(self) -> f64 {
         if self != self {
             return self;

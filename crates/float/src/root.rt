@@ -18,6 +18,7 @@ fn guess(t: u64) -> u64
 }
 
 // One of Newton's steps toward √n. It ends at the whole part or above, wherever it starts.
+#[tactic(auto, using(crate::proofs::Squares::newton_above))]
 fn newton(n: u64, g: u64) -> u64
     requires nonzero { 0 < g }
     requires small_guess { g < 4294967296 }
@@ -72,6 +73,7 @@ impl Normal {
 }
 
 // t * 2 ^ 149.
+#[tactic(auto, using(crate::proofs::Scaling::zeros_least, crate::proofs::Scaling::scaled_same))]
 fn scale(t: u32) -> Normal
     requires nonzero { 0 < t }
     requires subnormal { t < 8388608 }

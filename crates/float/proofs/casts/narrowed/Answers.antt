@@ -1,5 +1,6 @@
 -- By the exponent's field: too large, normal, subnormal, too small; each case is one of Narrowing.
-use Rattle.std.proofs.Common.{◌≡◌, ℕ, ◌+◌, ◌-◌, ◌*◌, ◌/◌, ◌%◌, ◌^◌, ◌<◌, ◌≤◌, sym, ap, ◌∙◌, subst, lt_of_lt_of_le, mod-eq_of_lt, one-mul, arith, lit≤, pow_pos, pow_mono}
+use Rattle.std.proofs.Common.{◌≡◌, ℕ, ◌+◌, ◌-◌, ◌*◌, ◌/◌, ◌%◌, ◌^◌, ◌<◌, ◌≤◌, sym, ap, ◌∙◌, subst, lt_of_lt_of_le}
+use Rattle.std.proofs.Common.{mod-eq_of_lt, one-mul, arith, lit≤, pow_pos, pow_mono}
 use lib.Pow.{pow-lt}
 use lib.Ieee.{binary32, of_bits}
 use lib.Ieee.Nearest.{closest}
