@@ -1,17 +1,16 @@
 -- What stands in the lists of arc lengths and of tangents.
-use Rattle.std.specs.Prelude.{◌≡◌, refl, Option, None, Some, List, [], ◌∷◌, ◌++◌, ℕ, zero, suc, ◌+◌, ◌-◌, ◌*◌, ◌<◌, length, get_or, set, Float}
+use Rattle.std.specs.Prelude.{◌≡◌, refl, Option, List, [], ◌∷◌, ◌++◌, ℕ, zero, suc, ◌+◌, ◌-◌, ◌*◌, ◌<◌, length, get_or, set, Float}
 use Rattle.std.proofs.Common.{sym, ap, ◌∙◌, ⊎_elim, arith, add-one, length-append}
-use borrow.Author.Tests.{lt-ltb, eq-eqb, ne_eqb}
+use borrow.Author.Tests.{lt-ltb}
 use Rattle.std.proofs.Math.ListN.{get_or-append}
 use Rattle.std.proofs.lemmas.List.{get_or_at}
 use Rattle.std.specs.Float.{nan, binary32}
 use Rattle.std.specs.Float.Ieee.{add}
 use Rattle.exact.specs.Naturals.{lt_or_le}
 use Rattle.coords.specs.declared.Vector.{Vector}
-use Rattle.coords.specs.Coords.{normalize_or}
 use Rattle.geometry.specs.declared.Ends.{Ends}
 use Rattle.geometry.specs.Polyline.{segment_length, arc_at, cumulative_of}
-use Rattle.geometry.specs.Polyline.{horizontal, incoming_at, outgoing_at, end_or, with_vector, tangent_at, tangents_to}
+use Rattle.geometry.specs.Polyline.{incoming_at, outgoing_at, with_vector, tangent_at, tangents_to}
 use Rattle.geometry.specs.Over.{over, over_next, over_three}
 
 pub length_cumulative : (ps : List Float) (n : ℕ) → length (cumulative_of ps n) ≡ n
@@ -64,21 +63,3 @@ tangents_next ps n e old out k t h same is =
     (length_tangents ps n e k) h
     ∙ ap (λ (v : Vector). over (tangents_to ps n e k ++ (v.x ∷ v.y ∷ v.z ∷ [])) old) is ∙ ap
     (λ (j : ℕ). over (tangents_to ps n e j) old) (sym (add-one k))
-
--- what the tests of `end_or` decide
-module _ (chord : Vector) (n i : ℕ) where
-  pub start_given : (e : Ends) → i ≡ 0 → normalize_or (horizontal e.start) chord ≡ end_or chord (Some e) n i
-  unfolding end_or
-  start_given e h = simp (eq-eqb i 0 h)
-
-  pub end_given : (e : Ends) → (i ≡ 0 → ⊥) → i ≡ n - 1 → normalize_or (horizontal e.end) chord ≡ end_or chord (Some e) n i
-  unfolding end_or
-  end_given e h k = simp (ne_eqb i 0 h, eq-eqb i (n - 1) k)
-
-  pub between_ends : (e : Ends) → (i ≡ 0 → ⊥) → (i ≡ n - 1 → ⊥) → chord ≡ end_or chord (Some e) n i
-  unfolding end_or
-  between_ends e h k = simp (ne_eqb i 0 h, ne_eqb i (n - 1) k)
-
-  pub none_given : chord ≡ end_or chord None n i
-  unfolding end_or
-  none_given = refl

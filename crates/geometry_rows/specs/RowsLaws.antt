@@ -1,39 +1,12 @@
 -- The rows that are written fill the tables from the first entry on.
-use Rattle.std.specs.Prelude.{◌≡◌, refl, Option, None, Some, List, ℕ, zero, suc, ◌+◌, ◌-◌, ◌*◌, ◌≤◌, ◌<◌, length, get_or, take, drop, Float}
+use Rattle.std.specs.Prelude.{◌≡◌, refl, List, ℕ, zero, suc, ◌+◌, ◌*◌, ◌≤◌, ◌<◌, length, Float}
 use Rattle.std.proofs.Math.Path.{sym, ap}
-use Rattle.std.proofs.Common.{◌∙◌, ⊎_elim, le_trans, le-add_right, eq-or-lt_of_le, arith, add-one, length-append, length-take, length-drop}
-use borrow.Author.Tests.{eq-eqb, ne_eqb}
-use borrow.Rule.Slice.PartMut.{put_mid}
-use Rattle.coords.specs.declared.Vector.{Vector}
-use Rattle.geometry.specs.declared.Ends.{Ends}
-use Rattle.geometry.specs.Polyline.{vector_at, cumulative_of, tangents_of}
+use Rattle.std.proofs.Common.{◌∙◌, ⊎_elim, le_trans, le-add_right, eq-or-lt_of_le, arith, add-one, length-append}
+use Rattle.geometry.specs.Polyline.{cumulative_of, tangents_of}
 use Rattle.geometry.specs.PolylineLaws.{length_cumulative, length_tangents}
-use Rattle.geometry.specs.Over.{over, placed, over_placed, put_back}
-use Rattle.rows.specs.Rows.{first_point, part, point_count, points_of}
+use Rattle.geometry.specs.Over.{over, placed, over_placed}
+use Rattle.rows.specs.Rows.{first_point, point_count, points_of}
 use Rattle.geometry_rows.specs.Rows.{lane_ends, cumulative_rows, tangent_rows, points_before, Rows}
-
--- ---- one lane, written into its part of a table
-module _ (points old out : List Float) (first count : ℕ) where
-  -- its points
-  abbrev cut : List Float
-  cut = part points (3 * first) (3 * (first + count))
-
-  lane_length_law : first + count ≤ length old → length (take (first + count - first) (drop first old)) ≡ count
-  lane_length_law h = simp (length-take, length-drop) (omega arith)
-
-  pub lane_cumulative : first + count ≤ length old
-      → out ≡ cumulative_of cut (length (take (first + count - first) (drop first old)))
-      → put_mid first (first + count - first) old out ≡ placed first (cumulative_of cut count) old
-  lane_cumulative h e =
-      let long = length_cumulative cut count in
-      put_back first (first + count) old out (cumulative_of cut count) (omega arith)
-      (e ∙ ap (cumulative_of cut) (lane_length_law h)) (omega arith)
-
-  pub lane_tangents : (ends : Option Ends) → out ≡ tangents_of cut count ends
-      → put_mid (3 * first) (3 * (first + count) - 3 * first) old out ≡ placed (3 * first) (tangents_of cut count ends) old
-  lane_tangents ends e =
-      let long = length_tangents cut count ends count in
-      put_back (3 * first) (3 * (first + count)) old out (tangents_of cut count ends) (omega arith) e (omega arith)
 
 -- ---- all lanes
 pub length_cumulative_rows : (lanes : List ℕ) (points : List Float) (k : ℕ) → length (cumulative_rows lanes points k) ≡ points_before lanes k
@@ -96,15 +69,3 @@ module _ (lanes : List ℕ) (n : ℕ) (points : List Float) (rows : Rows lanes n
         ∙ over_placed (tangent_rows lanes points ends k) lane old (3 * first_point lanes k)
         (length_tangent_rows lanes points ends k ∙ ap (λ (j : ℕ). 3 * j) (sym (rows.firsts k h)))
         ∙ ap (λ (j : ℕ). over (tangent_rows lanes points ends j) old) (sym (add-one k))
-
--- ---- the ends of a lane
-module _ (lanes : List ℕ) (ends : List Float) (i : ℕ) (start end : Vector) (s : start ≡ vector_at ends (2 * i))
-    (e : end ≡ vector_at ends (2 * i + 1)) where
-  pub ends_none : get_or lanes (6 * i + 3) 0 ≡ 0 → None ≡ lane_ends lanes ends i
-  unfolding lane_ends
-  ends_none h = rw (eq-eqb (get_or lanes (6 * i + 3) 0) 0 h)
-
-  pub ends_given : (get_or lanes (6 * i + 3) 0 ≡ 0 → ⊥) → ◌≡◌ {A = Option Ends} (Some (record { start = start; end = end }))
-      (lane_ends lanes ends i)
-  unfolding lane_ends
-  ends_given h = rw (s, e, ne_eqb (get_or lanes (6 * i + 3) 0) 0 h)

@@ -37,6 +37,7 @@ fn write_lane_tangents(
 }
 
 // The tangents at the two ends of lane i, where it gives them.
+#[tactic(auto, unfolding(crate::specs::Rows::lane_ends))]
 fn lane_ends(lanes: &[usize], ends: &[f32], i: usize) -> Option<Ends>
     requires { (6 * i + 6 ≤ length lanes.now) × (6 * i + 6 ≤ length ends.now) }
     ensures { result ≡ lane_ends lanes.now ends.now i }

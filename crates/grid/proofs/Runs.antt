@@ -106,18 +106,3 @@ module _ (cx cy r cols iy : ℕ) where
           → listed (cond b (near_run cx r cols) (ends_run cx r cols)) ≡ cond b (near_to cx r cols) (end_columns cx r cols)
       by true f = near_listed cx r cols
       by false f = ends_listed cx r cols (f refl)
-
-  pub columns_step : cy ≤ iy + r → iy ≤ cy + r → 0 < (columns_run cx cy r cols iy).step
-  columns_step h k = by (is_edge cy r iy) (λ e. inner e h k)
-    where
-      by : (b : Bool) → (b ≡ false → 0 < r) → 0 < (cond b (near_run cx r cols) (ends_run cx r cols)).step
-      by true f = omega arith
-      by false f = let h = f refl in omega arith
-
-  pub columns_few : r ≤ 1024 → cols ≤ 1024 → ((columns_run cx cy r cols iy).step ≤ 2048) × ((columns_run cx cy r cols iy).end ≤ 1024)
-  columns_few h k = by (is_edge cy r iy)
-    where
-      by : (b : Bool)
-          → ((cond b (near_run cx r cols) (ends_run cx r cols)).step ≤ 2048) × ((cond b (near_run cx r cols) (ends_run cx r cols)).end ≤ 1024)
-      by true = (omega arith, omega arith)
-      by false = (omega arith, omega arith)

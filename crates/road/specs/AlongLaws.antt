@@ -1,22 +1,19 @@
 -- The steps of `along` and `station_at` give what their definitions say.
-use Rattle.std.specs.Prelude.{◌≡◌, refl, Bool, true, false, not, None, Some, ℕ, ◌+◌, ◌-◌, ◌<◌, T, length, get_or, take, drop, Float}
+use Rattle.std.specs.Prelude.{◌≡◌, refl, Bool, true, false, not, ℕ, ◌+◌, ◌-◌, ◌<◌, T, length, get_or, take, drop, Float}
 use Rattle.std.proofs.Math.Path.{sym, ap, ap₂}
 use Rattle.std.proofs.Common.{◌∙◌, subst, arith, length-drop, take_all}
-use Rattle.std.proofs.Math.Bool.{cond}
 use mathlib.Core.List.{List, [], ◌∷◌}
 use Rattle.std.proofs.Math.Nat.{min-le_right}
 use Rattle.std.specs.Float.{nan}
-use Rattle.std.specs.Float.Ieee.{binary32, add, sub, mul, div, lt, le}
-use Rattle.float.specs.Choose.{clamp_of}
+use Rattle.std.specs.Float.Ieee.{binary32, add, mul, le}
 use Rattle.float.specs.Narrow.{narrow_of}
-use Rattle.coords.specs.Coords.{zero⁺, one⁺}
 use Rattle.geometry.specs.Polyline.{segment_length, arc_at, cumulative_of}
 use Rattle.geometry.specs.PolylineLaws.{cumulative_at}
 use Rattle.geometry.specs.Partition.{leading, Rising, Falling, rising_rest, is_true}
 use Rattle.geometry.specs.Locate.{segment_of}
 use Rattle.geometry.specs.LocateLaws.{segment_inside}
 use Rattle.geometry.specs.Order.{le_trans}
-use Rattle.road.specs.Along.{Stationed, fraction_at, along_of, short_of, reached_by, part_of, station_on, station_of, centerline_of}
+use Rattle.road.specs.Along.{Stationed, fraction_at, along_of, short_of, reached_by, part_of, station_on, station_of}
 
 -- ---- the search of `station_at` looks at the ends of the segments: the arc lengths from the second on
 pub ends_rise : (cs : List Float) → Rising cs → Rising (drop 1 cs)
@@ -32,19 +29,6 @@ short_falling arc x y h k = by (le arc x) refl
     by : (b : Bool) → le arc x ≡ b → not b ≡ true
     by true e = sym (ap not (is_true (le arc y) (le_trans arc x y (subst T (sym e) tt) h))) ∙ k
     by false e = refl
-
--- ---- what the test of `part` decides
-module _ (step before arc : Float) where
-  abbrev within : Float
-  within = clamp_of (div binary32 (sub binary32 arc before) step) zero⁺ one⁺
-
-  pub part_some : lt zero⁺ step ≡ true → within ≡ part_of step before arc
-  unfolding part_of
-  part_some h = sym (ap (λ (b : Bool). cond b within zero⁺) h)
-
-  pub part_none : lt zero⁺ step ≡ false → zero⁺ ≡ part_of step before arc
-  unfolding part_of
-  part_none h = sym (ap (λ (b : Bool). cond b within zero⁺) h)
 
 -- ---- the steps of `along` and `station_at`
 module _ (ps cs sts : List Float) (lane : Stationed ps cs sts) where
@@ -78,17 +62,3 @@ module _ (ps cs sts : List Float) (lane : Stationed ps cs sts) where
       let all = g ∙ ap₂ (λ (x y : Float). part_of x y arc) m (arc_here i h) in
       ap (station_on sts i) all
       ∙ ap (λ (j : ℕ). station_on sts j (part_of (segment_length ps j) (arc_at ps j) arc)) (e ∙ ap (λ (l : List Float). reached_by l arc) same)
-
--- what the tests of `centerline_s` decide
-module _ (start end : Float) (ps sts : List Float) (s : Float) where
-  pub on_section : le start s ≡ true → le s end ≡ true → Some (along_of ps sts s) ≡ centerline_of start end ps sts s
-  unfolding centerline_of
-  on_section h k = rw (h, k)
-
-  pub past_section : le start s ≡ true → le s end ≡ false → None ≡ centerline_of start end ps sts s
-  unfolding centerline_of
-  past_section h k = rw (h, k)
-
-  pub before_section : le start s ≡ false → None ≡ centerline_of start end ps sts s
-  unfolding centerline_of
-  before_section h = rw h
