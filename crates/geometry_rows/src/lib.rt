@@ -1,5 +1,5 @@
 // The polylines of all lanes, written into the lent tables when a plan is loaded. A row of `lanes` is number, type, direction, ends, first
-// point, points; a row of `ends` is the start and the end tangent.
+// point, points; a row of `ends` is the start and the end tangent. The tables are C's, of fixed size: the plan's lanes are the first n rows.
 #![tactic(auto)]
 
 ghost use Rattle.std.specs.Prelude.{◌≡◌, ◌+◌, ◌*◌, ◌<◌, ◌≤◌, length};

@@ -115,7 +115,7 @@ pub struct Ring {
     pub ghost near: { (center.ix < 1024) × (center.iy < 1024) × (r ≤ 1024) },
 }
 
-// The numbers first, first + step, .. below end.
+// The numbers first, first + step, .. below end. No `StepBy`: the definitions of specs/Ring.antt speak of these three numbers.
 #[repr(C)]
 #[derive(Clone, Copy)]
 pub struct Run {
