@@ -39,9 +39,13 @@ in_section bounds j s = le (start_of bounds j) s && le s (end_of bounds j)
 abbrev pub zero64 : Float
 zero64 = of_bits binary64 0
 
+-- all zeros, which no caller takes for a place
+abbrev pub nowhere : LanePosition
+nowhere = record { lane = record { 0 = 0 }; s = zero64; offset = zero64 }
+
 -- the number of a refusal; all else is zero
 abbrev pub refusal : ℕ → BesideAnswer
-refusal number = record { number = number; at = record { lane = record { 0 = 0 }; s = zero64; offset = zero64 } }
+refusal number = record { number = number; at = nowhere }
 
 -- the center of the lane with this number, and of the lane in row i, at s
 abbrev pub center_of : ℕ → Float → BesideAnswer

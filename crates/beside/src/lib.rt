@@ -2,10 +2,11 @@
 // tables with rows of fixed width: `lanes` (6 a row), `fans` (5), `places` (3) and `bounds` (2). `specs/` says what each function answers.
 #![tactic(auto)]
 
-ghost use Rattle.std.specs.Prelude.{◌≡◌, ◌+◌, ◌*◌, ◌<◌, ◌≤◌, length, IfSome, unwrap_or};
+ghost use Rattle.std.specs.Prelude.{◌≡◌, ◌+◌, ◌*◌, ◌<◌, ◌≤◌, length, IfSome, MatchOption, unwrap_or};
+ghost use Rattle.rows.specs.Rows.{place_of};
 ghost use Rattle.beside.specs.Seated.{Seated};
 ghost use Rattle.beside.specs.Sides.{direction_at, direction_number, side_at, side_number};
-ghost use Rattle.beside.specs.Beside.{answer_of, beyond, toward_larger, nearer_at, next_row, in_section, beside_rows};
+ghost use Rattle.beside.specs.Beside.{nowhere, answer_of, beyond, toward_larger, nearer_at, next_row, in_section, beside_rows};
 
 use plan_format::{LaneId, Refusal};
 
@@ -57,6 +58,19 @@ pub struct LanePosition {
     pub offset: f64,
 }
 
+// The place of a refusal. By hand, since a default of `LaneId` would be the number of a lane like any other.
+impl Default for LanePosition {
+    ghost is_default = { λ at. at ≡ nowhere };
+
+    fn default() -> Self {
+        LanePosition {
+            lane: LaneId(0),
+            s: 0.0,
+            offset: 0.0,
+        }
+    }
+}
+
 // What C gets for `beside`: document 01's number, 0 where there is a lane, and the position, zeros where refused.
 #[repr(C)]
 #[derive(Clone, Copy)]
@@ -73,11 +87,7 @@ impl From<Result<LanePosition, Refusal>> for BesideAnswer {
             Ok(at) => BesideAnswer { number: 0, at },
             Err(refusal) => BesideAnswer {
                 number: refusal.number(),
-                at: LanePosition {
-                    lane: LaneId(0),
-                    s: 0.0,
-                    offset: 0.0,
-                },
+                at: LanePosition::default(),
             },
         }
     }
@@ -126,6 +136,15 @@ pub fn is_in_section(bounds: &[f64], j: usize, s: f64) -> bool
     false
 }
 
+// The row of lane i's place, if it has one of so many.
+pub fn place_row(fans: &[usize], place_count: usize, i: usize) -> Option<usize>
+    requires { 5 * i + 4 < length fans.now }
+    ensures { MatchOption result (place_count ≤ place_of fans.now i) (λ p. (p ≡ place_of fans.now i) × (p < place_count)) }
+{
+    let p = fans[5 * i + 4];
+    if p < place_count { Some(p) } else { None }
+}
+
 impl Seats<'_> {
     // Whether the lane of place k stands in section j between the number `here` and the nearest so far, that of place `best`, if there is one.
     fn is_nearer(&self, j: usize, here: usize, larger: bool, best: Option<usize>, k: usize) -> bool
@@ -146,7 +165,8 @@ impl Seats<'_> {
         }
     }
 
-    // The place next to the number `here` in section j, toward the larger numbers or the smaller.
+    // The place next to the number `here` in section j, toward the larger numbers or the smaller. Not by `fold`, whose closure would have this `if`
+    // and both facts of `best` in its own clauses, nor by `min_by`, whose order would turn with `larger`.
     fn next_row(&self, j: usize, here: usize, larger: bool) -> Option<usize>
         ensures is { unwrap_or result 256 ≡ next_row self.now.places.now self.now.place_count j here larger self.now.place_count }
         ensures within { IfSome result (λ r. r < self.now.place_count) }
@@ -170,10 +190,9 @@ impl Seats<'_> {
         let Some(i) = plan_find::find_lane(at.lane, lanes, self.lane_count) else {
             return Err(Refusal::NotOnALane);
         };
-        let p = self.fans[5 * i + 4];
-        if self.place_count <= p {
+        let Some(p) = place_row(self.fans, self.place_count, i) else {
             return Err(Refusal::NotOnALane);
-        }
+        };
         let j = places[3 * p + 1];
         if !is_in_section(self.bounds, j, at.s) {
             return Err(Refusal::NotOnALane);

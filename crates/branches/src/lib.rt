@@ -440,9 +440,7 @@ impl<'a> Plan<'a> {
         ensures { MatchOption result (self.now.place_count ≤ place_of self.now.fans.now i)
             (λ p. (p ≡ place_of self.now.fans.now i) × (p < self.now.place_count)) }
     {
-        let fans = self.fans;
-        let p = fans[5 * i + 4];
-        if p < self.place_count { Some(p) } else { None }
+        beside::place_row(self.fans, self.place_count, i)
     }
 
     // The row of the section of place p, that of lane i.

@@ -26,11 +26,7 @@ pub enum Advance {
 // What stands in the places of a `Found` that hold none yet.
 impl Default for Advance {
     fn default() -> Self {
-        Advance::Reached(LanePosition {
-            lane: LaneId(0),
-            s: 0.0,
-            offset: 0.0,
-        })
+        Advance::Reached(LanePosition::default())
     }
 }
 
@@ -91,18 +87,18 @@ impl Advance {
         }
     }
 
-    // Whether the place is told apart by k. Most differ in the lane, so that nothing is rounded.
+    // Whether the place is told apart by k. Most differ in the lane, so that comes first: then nothing is rounded.
     #[tactic(auto, unfolding(crate::specs::Ends::placing_of))]
     fn is_told_by(self, k: Placing) -> bool
         ensures { result ≡ same_placing (placing_of self) k }
     {
         let at = self.position();
         let lane = at.lane;
-        self.case() == k.case
-            && lane.0 == k.lane
+        lane.0 == k.lane
             && branches::millimetres(at.s) == k.s
             && branches::millimetres(at.offset) == k.offset
             && branches::millimetres(self.short()) == k.short
+            && self.case() == k.case
     }
 
     // Writes the place as row i of the lists: case and lane; s, offset and metres short.
@@ -244,7 +240,7 @@ impl Found {
             (found_of self.old) }
         ensures one { array_vec_len self.new.out ≤ array_vec_len self.old.out + 1 }
     {
-        if m <= fans[5 * b.lane + 4] {
+        if beside::place_row(fans, m, b.lane).is_none() {
             return;
         }
         let at = end_position(
