@@ -126,11 +126,11 @@ pub record Worked : Type 0 where
       ≡ refused_with 14 (7 ∷ []) (d 7 ∷ d 7 ∷ d 7 ∷ [])
 
 pub worked : Worked
-unfolding advance_in plan_rows lane_rows rows rows_from linked index_of advance_rows advance_row answered_by explored run step_from follow place give
-    end_of end_position end_arc placing_of enter enter_all first_branches rows_of first_row next_lanes kept is_next at_end up_on branch_onto key_of holds
-    millimetres led_to along_of fraction_at station_of station_on reached_by part_of segment_of leading arc_at cumulative_of point_at sqrt_of length_of
-    narrow_of round_of whole_by abs_of point_along locate_of local_t project_segments project_to nearer_at hit_along fraction_along left_normal cross_of
-    normalize_or to_bits to_signed add sub mul div lt le eq neg of_bits of_int round is_nan
+unfolding advance_in plan_rows lane_rows rows rows_from linked index_of advance_rows advance_row answered_by explored run step_from follow place
+    give end_of end_position end_arc placing_of enter enter_all first_branches rows_of first_row next_lanes kept is_next at_end up_on branch_onto
+    key_of holds millimetres led_to along_of fraction_at station_of station_on reached_by part_of segment_of leading arc_at cumulative_of
+    point_at sqrt_of length_of narrow_of round_of whole_by abs_of point_along locate_of local_t project_segments project_to nearer_at hit_along
+    fraction_along left_normal cross_of normalize_or to_bits to_signed add sub mul div lt le eq neg of_bits of_int round is_nan
 worked =
     record {
       by_six = refl;
@@ -162,11 +162,11 @@ pub record Refusals : Type 0 where
       ≡ record { advanced = record { number = 0; keys = 1024; positions = 0 }; rows = 7 ∷ []; metres = d 7 ∷ [] }
 
 pub refusals : Refusals
-unfolding advance_in plan_rows lane_rows rows rows_from linked index_of advance_rows advance_row answered_by explored run step_from follow place give
-    end_of end_position end_arc placing_of enter enter_all first_branches rows_of first_row next_lanes kept is_next at_end up_on branch_onto key_of holds
-    millimetres led_to along_of fraction_at station_of station_on reached_by part_of segment_of leading arc_at cumulative_of point_at sqrt_of length_of
-    narrow_of round_of whole_by abs_of point_along locate_of local_t project_segments project_to nearer_at hit_along fraction_along left_normal cross_of
-    normalize_or to_bits to_signed add sub mul div lt le eq neg of_bits of_int round is_nan
+unfolding advance_in plan_rows lane_rows rows rows_from linked index_of advance_rows advance_row answered_by explored run step_from follow place
+    give end_of end_position end_arc placing_of enter enter_all first_branches rows_of first_row next_lanes kept is_next at_end up_on branch_onto
+    key_of holds millimetres led_to along_of fraction_at station_of station_on reached_by part_of segment_of leading arc_at cumulative_of
+    point_at sqrt_of length_of narrow_of round_of whole_by abs_of point_along locate_of local_t project_segments project_to nearer_at hit_along
+    fraction_along left_normal cross_of normalize_or to_bits to_signed add sub mul div lt le eq neg of_bits of_int round is_nan
 refusals =
     record {
       from_three_by_infinity = refl;

@@ -1,50 +1,22 @@
 -- What the tests of the code decide.
 use Rattle.std.specs.Prelude.{◌≡◌, Bool, cond, not, ◌&&◌, ◌||◌, List, ◌∷◌, ℕ, zero, suc, ◌<◌, ◌≤◌, eqb, length, Float}
 use Rattle.std.proofs.Math.Path.{refl, sym}
-use Rattle.std.proofs.Common.{ap, ◌∙◌, true≢false}
+use Rattle.std.proofs.Common.{ap, true≢false}
 use Rattle.std.proofs.Math.Bool.{true, false}
 use Rattle.std.proofs.Math.Dec.{ltb}
-use Rattle.std.specs.Float.Ieee.{le}
-use borrow.Author.Tests.{ltb-true, lt-ltb, le-ltb, eq-eqb, ne_eqb}
-use Rattle.coords.specs.declared.Point.{Point}
-use Rattle.coords.specs.Coords.{zero⁺, distance_to}
+use borrow.Author.Tests.{ltb-true, lt-ltb, le-ltb}
+use Rattle.coords.specs.Coords.{zero⁺}
 use Rattle.beside.specs.Sides.{direction_at}
 use Rattle.beside.specs.declared.Direction.TheVariants.{Forward, Backward, Both}
 use Rattle.rows.specs.Rows.{direction_of, length_of}
 use Rattle.branches.specs.declared.Branch.{Branch}
 use Rattle.branches.specs.declared.Leaving.{Leaving}
 use Rattle.branches.specs.declared.Key.{Key}
-use Rattle.branches.specs.Branches.{head_of, tail_of, away_from, at_end, is_next, up_on, branch_onto, key_of, same_key, holds}
+use Rattle.branches.specs.Branches.{at_end, is_next, up_on, branch_onto, key_of, same_key, holds}
 use Rattle.branches.specs.Front.{Front, enter}
 
--- ---- at which end a lane joins
-module _ (lanes : List ℕ) (points cumulative : List Float) (i next : ℕ) (up : Bool) (head tail : Float)
-    (from-head : head ≡ away_from lanes points cumulative next (head_of lanes points i))
-    (from_tail : tail ≡ away_from lanes points cumulative next (tail_of lanes points cumulative i)) where
-  end_is : at_end lanes points cumulative i next up ≡ cond up (le tail head) (le head tail)
-  unfolding at_end
-  end_is = rw (← from-head, ← from_tail)
-
-  pub end_up : up ≡ true → le tail head ≡ at_end lanes points cumulative i next up
-  end_up e = sym (end_is ∙ ap (λ (b : Bool). cond b (le tail head) (le head tail)) e)
-
-  pub end_down : up ≡ false → le head tail ≡ at_end lanes points cumulative i next up
-  end_down e = sym (end_is ∙ ap (λ (b : Bool). cond b (le tail head) (le head tail)) e)
-
+-- ---- where a branch goes on
 module _ (lanes : List ℕ) (n : ℕ) (points cumulative : List Float) (i : ℕ) (up : Bool) (next : ℕ) where
-  pub next_missing : n ≤ next → false ≡ is_next lanes n points cumulative i up next
-  unfolding is_next
-  next_missing h = sym (rw (le-ltb next n h))
-
-  module _ (there : next < n) where
-    pub next_one_way : (direction_of lanes i ≡ 2 → ⊥) → true ≡ is_next lanes n points cumulative i up next
-    unfolding is_next
-    next_one_way h = sym (rw (lt-ltb next n there, ne_eqb (direction_of lanes i) 2 h))
-
-    pub next_both : direction_of lanes i ≡ 2 → at_end lanes points cumulative i next up ≡ is_next lanes n points cumulative i up next
-    unfolding is_next
-    next_both h = sym (rw (lt-ltb next n there, eq-eqb (direction_of lanes i) 2 h))
-
   pub next_there : is_next lanes n points cumulative i up next ≡ true → next < n
   unfolding is_next
   next_there e = by (ltb next n) (not (eqb (direction_of lanes i) 2) || at_end lanes points cumulative i next up) refl e
@@ -53,7 +25,7 @@ module _ (lanes : List ℕ) (n : ℕ) (points cumulative : List Float) (i : ℕ)
       by true b e h = ltb-true next n e
       by false b e h = absurd (true≢false (sym h))
 
--- ---- which way a branch moves
+-- ---- which way the traffic of a lane runs
 pub forward_at : (n : ℕ) → direction_at n ≡ Forward → n ≡ 0
 forward_at zero e = refl
 forward_at (suc zero) e = cc
@@ -72,22 +44,6 @@ both_at (suc zero) e = cc
 both_at (suc (suc zero)) e = refl
 both_at (suc (suc (suc n))) e = cc
 
-module _ (lanes : List ℕ) (points cumulative : List Float) (ahead : Bool) (exit : Point) (i : ℕ) where
-  pub up_forward : direction_of lanes i ≡ 0 → ahead ≡ up_on lanes points cumulative ahead exit i
-  unfolding up_on
-  up_forward h = sym (rw (eq-eqb (direction_of lanes i) 0 h))
-
-  module _ (other : direction_of lanes i ≡ 0 → ⊥) where
-    pub up_backward : direction_of lanes i ≡ 1 → not ahead ≡ up_on lanes points cumulative ahead exit i
-    unfolding up_on
-    up_backward h = sym (rw (ne_eqb (direction_of lanes i) 0 other, eq-eqb (direction_of lanes i) 1 h))
-
-    pub up_both : (direction_of lanes i ≡ 1 → ⊥)
-        → le (distance_to exit (head_of lanes points i)) (distance_to exit (tail_of lanes points cumulative i))
-        ≡ up_on lanes points cumulative ahead exit i
-    unfolding up_on
-    up_both h = sym (rw (ne_eqb (direction_of lanes i) 0 other, ne_eqb (direction_of lanes i) 1 h))
-
 -- ---- the branch that enters a lane
 module _ (lanes : List ℕ) (points cumulative : List Float) (ahead : Bool) (l : Leaving) (next : ℕ) (up : Bool)
     (way : up ≡ up_on lanes points cumulative ahead l.exit next) where
@@ -100,13 +56,6 @@ module _ (lanes : List ℕ) (points cumulative : List Float) (ahead : Bool) (l :
 
   pub onto_lane : (branch_onto lanes points cumulative ahead l next).lane ≡ next
   onto_lane = ap (λ (b : Branch). b.lane) onto_is
-
-  pub onto_start : up ≡ true → entering zero⁺ ≡ branch_onto lanes points cumulative ahead l next
-  onto_start e = sym (onto_is ∙ ap (λ (b : Bool). entering (cond b zero⁺ (length_of lanes cumulative next))) e)
-
-  pub onto_end : up ≡ false → (len : Float) → len ≡ length_of lanes cumulative next
-      → entering len ≡ branch_onto lanes points cumulative ahead l next
-  onto_end e len is = sym (onto_is ∙ ap (λ (b : Bool). entering (cond b zero⁺ (length_of lanes cumulative next))) e ∙ ap entering (sym is))
 
 -- ---- entering a lane
 module _ (lanes : List ℕ) (b : Branch) (f : Front) (k : Key) (is : k ≡ key_of lanes b) (t : Bool)

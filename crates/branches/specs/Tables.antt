@@ -3,7 +3,8 @@ use Rattle.std.specs.Prelude.{List, [], ◌∷◌, ℕ, zero, suc, ◌+◌, ◌-
 use Rattle.geometry.specs.Polyline.{Line}
 use Rattle.geometry.specs.Partition.{Rising}
 use Rattle.road.specs.Along.{Stationed}
-use Rattle.rows.specs.Rows.{points_of, arcs_of, end_point, first_link, successors, predecessors, leads_to, place_of, placed_section, end_station, stations_of}
+use Rattle.rows.specs.Rows.{points_of, arcs_of, end_point, first_link, successors, predecessors, leads_to}
+use Rattle.rows.specs.Rows.{place_of, placed_section, end_station, stations_of}
 
 -- of a plan with so many lanes and places
 pub record Tables : Type 0 where

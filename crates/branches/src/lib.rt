@@ -150,6 +150,7 @@ fn away(lanes: &[usize], points: &[f32], cumulative: &[f32], i: usize, p: Point)
 }
 
 // Whether the lane `next` joins lane i at the end that a branch moving `up` it leaves by, rather than at the other.
+#[tactic(auto, unfolding(crate::specs::Branches::at_end))]
 pub fn at_end(
     lanes: &[usize],
     points: &[f32],
@@ -273,6 +274,7 @@ impl<'a> Lanes<'a> {
     }
 
     // Whether a branch on lane i goes on to the lane in row `next`.
+    #[tactic(auto, unfolding(crate::specs::Branches::is_next))]
     fn is_next(&self, i: usize, up: bool, next: usize) -> bool
         requires { i < self.now.count }
         ensures { result ≡ is_next self.now.rows.now self.now.count self.now.points.now self.now.cumulative.now i up next }
@@ -287,6 +289,7 @@ impl<'a> Lanes<'a> {
     }
 
     // Which way a branch that comes from `exit` moves along lane i.
+    #[tactic(auto, unfolding(crate::specs::Branches::up_on))]
     fn up_on(&self, ahead: bool, exit: Point, i: usize) -> bool
         requires { i < self.now.count }
         ensures { result ≡ up_on self.now.rows.now self.now.points.now self.now.cumulative.now ahead exit i }
@@ -303,6 +306,7 @@ impl<'a> Lanes<'a> {
     }
 
     // The branch that enters the lane `next`.
+    #[tactic(auto, unfolding(crate::specs::Branches::branch_onto))]
     fn onto(&self, ahead: bool, l: Leaving, next: usize) -> Branch
         requires { next < self.now.count }
         ensures { result ≡ branch_onto self.now.rows.now self.now.points.now self.now.cumulative.now ahead l next }
@@ -318,6 +322,7 @@ impl<'a> Lanes<'a> {
     }
 
     // The key of a branch.
+    #[tactic(auto, unfolding(crate::specs::Branches::key_of))]
     fn key_of(&self, b: Branch) -> Key
         requires { b.lane < self.now.count }
         ensures { result ≡ key_of self.now.rows.now b }

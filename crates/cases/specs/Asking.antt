@@ -51,8 +51,8 @@ use Rattle.cases.specs.Files.{f32, f64, xyz}
 
 -- what a file gives a caller whose tables are long enough
 unfoldable pub decoded : ℕ → List ℕ → Decoded
-unfolding opened decode settled judged walked walk with_record record_number fits lane_fits section_fits in_range lane_range section_range every any rises
-    rises_from within index_of repeats twice lacks u32_at u64_at records.run raised_at of_bits le
+unfolding opened decode settled judged walked walk with_record record_number fits lane_fits section_fits in_range lane_range section_range every
+    any rises rises_from within index_of repeats twice lacks u32_at u64_at records.run raised_at of_bits le
 decoded side file = opened false side file
 
 -- ---- the number of a file, 0 for a plan
@@ -73,10 +73,11 @@ shown r =
     }
 
 unfoldable pub route : List ℕ → Point → Point → Routed
-unfolding decoded answer_of route_in fitted routed between followed path_by suffices tables_of plan_rows lane_rows rows rows_from linked lengths_to is_ahead
-    searched search.run rebuild least_open relaxed expanded search.settled marked blank edges out sample_route sample_lanes sample_span sample_from steps_of
-    exit_for exit_at travel_end is_forward changes_off leads pushed flat nearest_lane lanes_after arc_at point_along locate_of segment_of local_t leading
-    project_to nearer_at fraction_along hit_along length_of abs_of sub mul div to_unsigned is_nan
+unfolding decoded answer_of route_in fitted routed between followed path_by suffices tables_of plan_rows lane_rows rows rows_from linked
+    lengths_to is_ahead searched search.run rebuild least_open relaxed expanded search.settled marked blank edges out sample_route sample_lanes
+    sample_span sample_from steps_of exit_for exit_at travel_end is_forward changes_off leads pushed flat nearest_lane lanes_after arc_at
+    point_along locate_of segment_of local_t leading project_to nearer_at fraction_along hit_along length_of abs_of sub mul div to_unsigned
+    is_nan
 route file from to = shown (route_of (decoded 0 file) from to (replicate 257 0) (replicate 12288 (f32 0)))
 
 -- the answer with this chain, these points and this cost
@@ -98,10 +99,10 @@ shown_positions a =
     }
 
 unfoldable pub advance : List ℕ → LanePosition → Float → Answer
-unfolding decoded advance_in advance_rows advance_row answered_by explored explore.run step_from follow place give end_of end_position end_arc enter enter_all
-    first_branches rows_of first_row next_lanes kept is_next at_end up_on branch_onto key_of holds led_to along_of fraction_at station_of station_on reached_by
-    part_of plan_rows lane_rows rows rows_from linked segment_of leading arc_at cumulative_of point_at sqrt_of length_of narrow_of round_of abs_of local_t sub mul
-    div is_nan
+unfolding decoded advance_in advance_rows advance_row answered_by explored explore.run step_from follow place give end_of end_position end_arc
+    enter enter_all first_branches rows_of first_row next_lanes kept is_next at_end up_on branch_onto key_of holds led_to along_of fraction_at
+    station_of station_on reached_by part_of plan_rows lane_rows rows rows_from linked segment_of leading arc_at cumulative_of point_at sqrt_of
+    length_of narrow_of round_of abs_of local_t sub mul div is_nan
 advance file from distance = shown_positions (advance_of (decoded 0 file) from distance (replicate 512 0) (replicate 768 (f64 0)))
 
 -- the answer with so many keys and one position

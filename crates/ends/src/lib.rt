@@ -87,7 +87,7 @@ impl Advance {
         }
     }
 
-    // Whether the place is told apart by k. Most differ in the lane, so that comes first: then nothing is rounded.
+    // Whether the place is told apart by k. Most differ in lane or case, so those come first: then nothing is rounded.
     #[tactic(auto, unfolding(crate::specs::Ends::placing_of))]
     fn is_told_by(self, k: Placing) -> bool
         ensures { result ≡ same_placing (placing_of self) k }
@@ -95,10 +95,10 @@ impl Advance {
         let at = self.position();
         let lane = at.lane;
         lane.0 == k.lane
+            && self.case() == k.case
             && branches::millimetres(at.s) == k.s
             && branches::millimetres(at.offset) == k.offset
             && branches::millimetres(self.short()) == k.short
-            && self.case() == k.case
     }
 
     // Writes the place as row i of the lists: case and lane; s, offset and metres short.

@@ -11,7 +11,9 @@ loop-at-init c =
     let none : c.args.end - c.args.end ≡ 0 = omega arith in
     record {
       left = omega arith;
-      followed = rw none (links_none s.rows.now s.count s.points.now s.cumulative.now c.args.ahead c.args.l c.args.links.now c.args.end 0 (front_of c.args.self.now));
+      followed = rw none
+          (links_none s.rows.now s.count s.points.now s.cumulative.now c.args.ahead c.args.l c.args.links.now c.args.end 0
+          (front_of c.args.self.now));
     }
 
 pub loop-at-preserved : goal.loop-at-preserved

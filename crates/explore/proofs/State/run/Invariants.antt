@@ -10,5 +10,7 @@ abbrev pub invariant-loop : goal.invariant-loop
 invariant-loop l =
     record {
       placed : array_vec_len l.self.found.out ≤ l.counter;
-      left : run_from (tables_of l.plan) l.ahead (1026 - l.counter) (state_of l.self) ≡ run_from (tables_of l.plan) l.ahead 1026 (state_of l.initial.self);
+      left :
+          run_from (tables_of l.plan) l.ahead (1026 - l.counter) (state_of l.self)
+          ≡ run_from (tables_of l.plan) l.ahead 1026 (state_of l.initial.self);
     }

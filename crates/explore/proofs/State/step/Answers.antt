@@ -14,9 +14,14 @@ use Rattle.explore.proofs.State.step.Goals as goal
 pub returns-in_default-clause-stepped : goal.returns-in_default-clause-stepped
 returns-in_default-clause-stepped c =
     let q = c.args.self.now in
-    let none = nil_from_length q.front.todo.items (omega (arith, length-take (length q.front.todo.items - 1) q.front.todo.items, ap length (c.in_default.ensures.items ∙ append-nil c.pop.new.self.items ∙ c.in_default.ensures.rest))) in
+    let taken = ap length (c.in_default.ensures.items ∙ append-nil c.pop.new.self.items ∙ c.in_default.ensures.rest) in
+    let none = nil_from_length q.front.todo.items
+    (omega (arith, length-take (length q.front.todo.items - 1) q.front.todo.items, taken)) in
     let with_branches : ArrayVec Branch → State =
-    λ v. record { front = record { todo = reverse v.items; entered = reverse q.front.keys.items; full = q.front.full }; found = (state_of q).found } in
+    λ v. record {
+      front = record { todo = reverse v.items; entered = reverse q.front.keys.items; full = q.front.full };
+      found = (state_of q).found;
+    } in
     ap with_branches c.in_default.ensures.empty ∙ step_empty (tables_of c.args.plan.now) c.args.ahead (state_of q) (ap reverse none)
 
 pub returns-then-b-plan-clause-stepped : goal.returns-then-b-plan-clause-stepped
