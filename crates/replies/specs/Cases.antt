@@ -28,8 +28,8 @@ use Rattle.search.specs.LaneGraph.{edges, out}
 use Rattle.search.specs.Search.{blank, expanded, least_open, marked, rebuild, relaxed, run as runSearch, searched, settled as settledLanes}
 use Rattle.tables.specs.LaneTables.{lane_rows}
 use Rattle.text.specs.Bytes.{bytes}
-use Rattle.text.specs.Lines.{advance_line, advance_text, at_line, beside_line, beside_text, double_field, lane_line, lane_lines, newline, number_field}
-use Rattle.text.specs.Lines.{plan_line, point_line, point_lines, position_lines, route_line, route_text, single_field}
+use Rattle.text.specs.Lines.{advance_line, advance_text, at_line, beside_line, beside_text, double_field, lane_line, lane_lines, newline}
+use Rattle.text.specs.Lines.{number_field, plan_line, point_line, point_lines, position_lines, route_line, route_text, single_field}
 use Rattle.text.specs.Numerals.{decimal_of, digits_of, double_of, hex_of, digit_count, digit_count_by, single_of}
 use Rattle.replies.specs.Printed.{printed, printed_by, replies_to, reply_to}
 
@@ -50,24 +50,26 @@ printed_case :
     ++ bytes "point 41000000 00000000 00000000\n"
     ++ bytes "point 41200000 00000000 00000000\n"
     ++ bytes "point 41400000 00000000 00000000\n"
-unfolding printed_by replies_to reply_to bytes plan_line route_text route_line lane_lines lane_line point_lines point_line newline number_field single_field
-    decimal_of digits_of digit_count digit_count_by single_of hex_of to_bits u32_at u64_at run raised_at query_at lane_fits section_fits fits every any rises_from rises
-    lane_range section_range in_range within record_number with_record walk walked index_of repeats twice lacks judged settled decode little made point
-    straight link route route_in answer_of fitted routed between followed path_by suffices tables_of plan_rows lane_rows rows rows_from linked lengths_to
-    is_ahead searched runSearch rebuild least_open relaxed expanded settledLanes marked blank edges out sample_route sample_lanes sample_span sample_from
-    steps_of exit_for exit_at travel_end is_forward nearer_end changes_off leads toward pushed flat nearest_lane lanes_after cumulative_of arc_at point_at
-    point_along locate_of segment_of local_t leading project_segments project_to nearer_at fraction_along hit_along left_normal length_of normalize_or cross_of
-    abs_of signum_of ceil_of add sub mul div lt le eq of_bits to_unsigned of_int is_nan
+unfolding printed_by replies_to reply_to bytes plan_line route_text route_line lane_lines lane_line point_lines point_line newline number_field
+    single_field decimal_of digits_of digit_count digit_count_by single_of hex_of to_bits u32_at u64_at run raised_at query_at lane_fits
+    section_fits fits every any rises_from rises lane_range section_range in_range within record_number with_record walk walked index_of repeats
+    twice lacks judged settled decode little made point straight link route route_in answer_of fitted routed between followed path_by suffices
+    tables_of plan_rows lane_rows rows rows_from linked lengths_to is_ahead searched runSearch rebuild least_open relaxed expanded settledLanes
+    marked blank edges out sample_route sample_lanes sample_span sample_from steps_of exit_for exit_at travel_end is_forward nearer_end
+    changes_off leads toward pushed flat nearest_lane lanes_after cumulative_of arc_at point_at point_along locate_of segment_of local_t leading
+    project_segments project_to nearer_at fraction_along hit_along left_normal length_of normalize_or cross_of abs_of signum_of ceil_of add sub
+    mul div lt le eq of_bits to_unsigned of_int is_nan
 printed_case = refl
 
 -- 0: an empty file is a plan. 3: one byte is no record
 empty_file : printed [] ≡ bytes "plan 0 0 0\n"
-unfolding printed_by replies_to bytes plan_line newline number_field decimal_of digits_of digit_count digit_count_by walk walked repeats twice lacks any judged
-    settled decode
+unfolding printed_by replies_to bytes plan_line newline number_field decimal_of digits_of digit_count digit_count_by walk walked repeats twice
+    lacks any judged settled decode
 empty_file = refl
 
 cut_file : printed (0 ∷ []) ≡ bytes "plan 3 0 0\n"
-unfolding printed_by bytes plan_line newline number_field decimal_of digits_of digit_count digit_count_by record_number walk walked settled decode
+unfolding printed_by bytes plan_line newline number_field decimal_of digits_of digit_count digit_count_by record_number walk walked settled
+    decode
 cut_file = refl
 
 -- no lane drives, and none has a place: each query is refused and prints zeros
@@ -78,9 +80,10 @@ empty_plan :
     ++ bytes "advance 12 0 0\n"
     ++ bytes "beside 12\n"
     ++ bytes "at 0 0000000000000000 0000000000000000\n"
-unfolding printed_by replies_to reply_to bytes plan_line route_text route_line lane_lines point_lines advance_text advance_line position_lines beside_text
-    beside_line at_line newline number_field single_field double_field decimal_of digits_of digit_count digit_count_by single_of double_of hex_of to_bits u32_at u64_at run
-    raised_at query_at fits every any in_range within record_number with_record walk walked index_of repeats twice lacks judged settled decode little made
-    point route advance beside route_in answer_of fitted routed between tables_of plan_rows lane_rows rows rows_from linked lengths_to nearest_lane
-    lanes_after advance_in advance_rows advance_row first_row beside_in add sub mul div lt le eq of_bits to_unsigned of_int is_nan
+unfolding printed_by replies_to reply_to bytes plan_line route_text route_line lane_lines point_lines advance_text advance_line position_lines
+    beside_text beside_line at_line newline number_field single_field double_field decimal_of digits_of digit_count digit_count_by single_of
+    double_of hex_of to_bits u32_at u64_at run raised_at query_at fits every any in_range within record_number with_record walk walked index_of
+    repeats twice lacks judged settled decode little made point route advance beside route_in answer_of fitted routed between tables_of plan_rows
+    lane_rows rows rows_from linked lengths_to nearest_lane lanes_after advance_in advance_rows advance_row first_row beside_in add sub mul div
+    lt le eq of_bits to_unsigned of_int is_nan
 empty_plan = refl

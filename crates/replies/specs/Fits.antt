@@ -8,7 +8,8 @@ use Rattle.std.proofs.Math.Dec.{leb}
 use Rattle.std.specs.Float.Ieee.Scale.{finite}
 use Rattle.std.proofs.Math.ListN.{length, length-append}
 use borrow.Author.Tests.{leb-true}
-use Rattle.advance.specs.Advance.{Answer, advance_row, advance_rows, answered, answered_by, case_row, explored, metre_row, pick_answer, refused_with, rows_of}
+use Rattle.advance.specs.Advance.{Answer, advance_row, advance_rows, answered, answered_by, case_row, explored, metre_row, pick_answer}
+use Rattle.advance.specs.Advance.{refused_with, rows_of}
 use Rattle.advance.specs.InPlan.{advance_in, advance_of}
 use Rattle.beside.specs.Beside.{in_section}
 use Rattle.beside.specs.declared.LanePosition.{LanePosition}

@@ -103,7 +103,8 @@ module _ (s : List ℕ) where
     where
       go : (b₁ b₂ b₃ b₄ : Bool) → eqb (u16_at s (at + 4)) 1 ≡ b₁ → eqb (u16_at s (at + 4)) 2 ≡ b₂ → eqb (u16_at s (at + 4)) 3 ≡ b₃
           → eqb (u16_at s (at + 4)) 4 ≡ b₄
-          → Sided (cond b₁ (with_lane at n a) (cond b₂ (with_link at a) (cond b₃ (with_section at n a) (cond b₄ (with_place at a) (with_query at a)))))
+          → Sided (cond b₁ (with_lane at n a) (cond b₂ (with_link at a) (cond b₃ (with_section at n a)
+          (cond b₄ (with_place at a) (with_query at a)))))
       go true b₂ b₃ b₄ e₁ e₂ e₃ e₄ = S
       go false true b₃ b₄ e₁ e₂ e₃ e₄ = S
       go false false true b₄ e₁ e₂ e₃ e₄ = S

@@ -1,16 +1,17 @@
 -- What the functions write are the pieces: the plan line from what `check` answers, then the reply to the query found.
-use Rattle.std.specs.Prelude.{List, [], ◌++◌, Option, None, Some, ◌≡◌, ℕ, ◌≤◌}
+use Rattle.std.specs.Prelude.{List, [], ◌++◌, Option, None, Some, Err, Ok, ◌≡◌, ℕ, ◌≤◌}
 use Rattle.std.proofs.Math.Bool.{false}
 use Rattle.std.proofs.Math.Path.{ap, refl}
-use Rattle.std.proofs.Common.{subst, sym, ◌∙◌, arith}
+use Rattle.std.proofs.Common.{ap₂, subst, sym, ◌∙◌, arith}
 use Rattle.std.proofs.Math.ListN.{length}
 use Rattle.plan_format.specs.Laws.{Bytes}
 use Rattle.plan_format.specs.Plan.{Decoded, accepted, decode, refused}
 use Rattle.plan_format.specs.Queries.{next_query}
 use Rattle.plan_format.specs.Reading.{opened, read_of}
+use Rattle.plan_format.specs.Refusals.{number_of, read_by, refusal_number}
 use Rattle.plan_format.specs.declared.Counts.{Counts}
 use Rattle.plan_format.specs.declared.Query.{Query}
-use Rattle.plan_format.specs.declared.Read.{Read}
+use Rattle.plan_format.specs.declared.Refusal.{Refusal}
 use Rattle.tables.specs.Opening.{has_none, has_plan}
 use Rattle.text.specs.Lines.{plan_line}
 use Rattle.text.specs.Page.{Adds}
@@ -23,33 +24,30 @@ alone {text} e P = P.adds ∙ ap (λ (t : List ℕ). t ++ text) e
 
 -- ---- the first piece, from what `check` answers
 
-same_line : {n a b m c d : ℕ} → n ≡ m → a ≡ c → b ≡ d → plan_line n a b ≡ plan_line m c d
-same_line e f g = rw (e, f, g)
-
-module _ (f : List ℕ) (B : Bytes f) (r : Read) (e : r ≡ read_of (decode 0 f)) {old new : ArrayVec ℕ} (none : old.items ≡ [])
-    (P : Adds (plan_line r.number r.counts.lanes r.counts.links) 68 old new) where
+module _ (f : List ℕ) (B : Bytes f) {old new : ArrayVec ℕ} (none : old.items ≡ []) where
   first_as : (d : Decoded) → decode 0 f ≡ d → (next : Option ℕ) → Writes (first_by d) next new → Writes (first_part f) next new
   first_as d q next W = subst (λ (x : Decoded). Writes (first_by x) next new) (sym q) W
 
-  few : length new.items ≤ room
-  few = let l = ap length (alone none P) in omega (arith, P.few)
+  few : {line : List ℕ} → Adds line 68 old new → length new.items ≤ room
+  few P = let l = ap length (alone none P) in omega (arith, P.few)
 
-  pub first_plan : r.number ≡ 0 → Writes (first_part f) (Some 0) new
+  pub first_plan : (c : Counts) → read_by (Ok c) ≡ read_of (decode 0 f) → Adds (plan_line 0 c.lanes c.links) 68 old new
+      → Writes (first_part f) (Some 0) new
   unfolding first_by opened
-  first_plan z =
-      let H = has_plan false 0 f B r e z in
-      let lanes : r.counts.lanes ≡ length H.plan.lanes = ap (λ (c : Counts). c.lanes) H.counts in
-      let links : r.counts.links ≡ length H.plan.links = ap (λ (c : Counts). c.links) H.counts in
-      first_as (accepted H.plan) H.is (Some 0) (record { text = alone none P ∙ same_line z lanes links; few = few; goes_on = refl })
+  first_plan c e P =
+      let H = has_plan false 0 f B (read_by (Ok c)) e refl in
+      let lanes : c.lanes ≡ length H.plan.lanes = ap (λ (c : Counts). c.lanes) H.counts in
+      let links : c.links ≡ length H.plan.links = ap (λ (c : Counts). c.links) H.counts in
+      let line = ap₂ (plan_line 0) lanes links in
+      first_as (accepted H.plan) H.is (Some 0) (record { text = alone none P ∙ line; few = few P; goes_on = refl })
 
-  pub first_refused : (r.number ≡ 0 → ⊥) → Writes (first_part f) None new
+  pub first_refused : (x : Refusal) → read_by (Err x) ≡ read_of (decode 0 f) → {n : ℕ} → n ≡ number_of x → Adds (plan_line n 0 0) 68 old new
+      → Writes (first_part f) None new
   unfolding first_by opened
-  first_refused z =
-      let d = has_none false 0 f B r e z in
-      let n = ap (λ (x : Read). x.counts) (e ∙ ap read_of d) in
-      let lanes : r.counts.lanes ≡ 0 = ap (λ (c : Counts). c.lanes) n in
-      let links : r.counts.links ≡ 0 = ap (λ (c : Counts). c.links) n in
-      first_as (refused r.number) d None (record { text = alone none P ∙ same_line refl lanes links; few = few; goes_on = refl })
+  first_refused x e q P =
+      let d = has_none false 0 f B (read_by (Err x)) e (refusal_number x) in
+      let line = ap (λ (n : ℕ). plan_line n 0 0) q in
+      first_as (refused (number_of x)) d None (record { text = alone none P ∙ line; few = few P; goes_on = refl })
 
 -- ---- the next piece
 

@@ -12,12 +12,12 @@ ghost use Rattle.replies.specs.Printed.{Writes, first_part, next_part, reply_to,
 use advance::Advanced;
 use arrayvec::ArrayVec;
 use beside::BesideAnswer;
-use plan_format::{LaneId, Query, Read};
+use plan_format::{LaneId, Query};
 use plan_queries::next_query;
 use plan_scan::RecordStarts;
 use route::RouteAnswer;
 
-// The tables of a call, as long as the limits ask. The C interface takes them one by one.
+// The tables of a call, on the stack and as long as the limits ask: there is no heap, and the C calls take the tables one by one.
 #[derive(Drop)]
 struct Tables {
     lanes: [usize; 1536],
@@ -194,11 +194,17 @@ pub fn first_piece<const N: usize>(file: &[u8], page: &mut ArrayVec<u8, N>) -> O
     let mut starts = RecordStarts::new();
     // the row of each lane number
     let mut index = [0u16; 65536];
-    let r = Read::from(plan::check(file, 0, &mut starts, &mut index));
-    let c = r.counts;
     page.clear();
-    text::plan_text(page, r.number, c.lanes, c.links);
-    if r.number == 0 { Some(0) } else { None }
+    match plan::check(file, 0, &mut starts, &mut index) {
+        Ok(c) => {
+            text::plan_text(page, 0, c.lanes, c.links);
+            Some(0)
+        }
+        Err(refusal) => {
+            text::plan_text(page, refusal.number(), 0, 0);
+            None
+        }
+    }
 }
 
 // Leaves the reply to the first query from `at` on, and answers from which place on more may follow; nothing where there is none.

@@ -44,4 +44,6 @@ position_lines_more rows metres k l rs ms e f i j next h h' r m p q =
     let metre = entry nan 3 l metres ms f i h' in
     let y : 2 * i + 0 ≡ 2 * i = omega arith in
     let z : 3 * i + 0 ≡ 3 * i = omega arith in
-    rw (next, add-one, p, q, row 0 (omega arith), row 1 (omega arith), metre 0 (omega arith), metre 1 (omega arith), metre 2 (omega arith), y, z) refl
+    let r₁ = row 1 (omega arith) in
+    let m₁ = metre 1 (omega arith) in
+    rw (next, add-one, p, q, row 0 (omega arith), r₁, metre 0 (omega arith), m₁, metre 2 (omega arith), y, z) refl

@@ -17,7 +17,9 @@ slice_range-put_mid : (a k n : ℕ) (xs ys : List ℕ) → a ≤ length xs → n
 slice_range-put_mid a k n xs ys within fits =
     let same : (a + n) - a ≡ n = omega arith in
     let after = post_of a k xs in
-    ap (take ((a + n) - a)) (drop_at (take a xs) (ys ++ after) a (length-take-le a xs within)) ∙ ap (λ m. take m (ys ++ after)) same ∙ take-append-le n ys after fits
+    ap (take ((a + n) - a)) (drop_at (take a xs) (ys ++ after) a (length-take-le a xs within))
+    ∙ ap (λ m. take m (ys ++ after)) same
+    ∙ take-append-le n ys after fits
 
 pub loop-len-preserved : goal.loop-len-preserved
 loop-len-preserved g c =
@@ -25,8 +27,11 @@ loop-len-preserved g c =
     let room = length c.loop-len.file - from in
     let within = c.loop-len.invariant.1 in
     let part = slice_range-put_mid from room c.in_ok-n.n c.loop-len.file c.read.new.buf within c.in_ok-n.ensures.bound.0 in
-    let joined = take_split from (from + c.in_ok-n.n) c.loop-len.file (put_mid from room c.loop-len.file c.read.new.buf) (omega arith) (take-put_mid_below _ _ _ _ _ (le_refl _) within) in
-    (search rules, search rules, subst (Consumes _ _) (ap (λ l. take from c.loop-len.file ++ l) (sym part) ∙ joined) (Consumes-trans _ _ _ _ _ c.loop-len.invariant.2 c.in_ok-n.ensures.bytes.0))
+    let put = put_mid from room c.loop-len.file c.read.new.buf in
+    let kept = take-put_mid_below _ _ _ _ _ (le_refl _) within in
+    let joined = take_split from (from + c.in_ok-n.n) c.loop-len.file put (omega arith) kept in
+    let read = Consumes-trans _ _ _ _ _ c.loop-len.invariant.2 c.in_ok-n.ensures.bytes.0 in
+    (search rules, search rules, subst (Consumes _ _) (ap (λ l. take from c.loop-len.file ++ l) (sym part) ∙ joined) read)
 
 on_err : {T E P : Type 0} (r : Result T E) → P → OnErr r P
 on_err (Ok x) p = tt
