@@ -23,11 +23,6 @@ pub record Writing (f : List ℕ) (old new : Option (List ℕ)) (next : Option �
   pub goes_on : Rest f next rest
   pub whole : done ++ rest ≡ printed f
 
--- where none follow, all is written
-pub finished : {f : List ℕ} {old new : Option (List ℕ)} → Writing f old new None → Appends old new (printed f)
-finished {f} {old} {new} T =
-    subst (Appends old new) (sym (append-nil T.done) ∙ ap (λ (t : List ℕ). T.done ++ t) (sym T.goes_on) ∙ T.whole) T.appended
-
 module _ (f : List ℕ) {next : Option ℕ} {page : ArrayVec ℕ} where
   -- after the first piece
   pub begun : {old new : Option (List ℕ)} → {bytes : List ℕ} → Writes (first_part f) next page → bytes ≡ page.items

@@ -53,6 +53,7 @@ fn main(rt: HostRuntime) {
         let _ = eprintln!(rt; "plan-run: standard input cannot be read");
         return;
     };
+    // as long as the longest piece, a route's answer of 257 lanes and 4,096 points: there is no heap
     let mut page = ArrayVec::<u8, 141928>::new();
     let _ = run(&file[..n], &mut page, &mut rt.stdout());
 }

@@ -53,6 +53,7 @@ impl Tables {
     }
 }
 
+// A reply asks for room on the page, as those below do: a ghost field of the page would no longer hold once a reply stands there.
 // The six floats are a query's, as the public call takes them. The lists are as long as document 01's limits ask.
 fn route_reply<const N: usize>(
     file: &[u8],
@@ -98,6 +99,7 @@ fn route_reply<const N: usize>(
     text::route_text(page, a.number, a.length, lanes, points);
 }
 
+// The lists are as long as document 01's limits ask.
 fn advance_reply<const N: usize>(
     file: &[u8],
     lane: LaneId,
@@ -192,7 +194,7 @@ pub fn first_piece<const N: usize>(file: &[u8], page: &mut ArrayVec<u8, N>) -> O
     ensures { Writes (first_part file.now) result page.new }
 {
     let mut starts = RecordStarts::new();
-    // the row of each lane number
+    // the row of each lane number, with an entry for every number
     let mut index = [0u16; 65536];
     page.clear();
     match plan::check(file, 0, &mut starts, &mut index) {

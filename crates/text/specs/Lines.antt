@@ -19,7 +19,7 @@ unfoldable pub double_field : Float → List ℕ
 double_field x = 32 ∷ double_of x
 
 -- a field for each number, and the end of the line
-unfoldable pub number_fields : List ℕ → List ℕ
+abbrev pub number_fields : List ℕ → List ℕ
 number_fields [] = newline
 number_fields (n ∷ ns) = number_field n ++ number_fields ns
 

@@ -1,5 +1,5 @@
-// The printed form of answers (document 01, "Program plan-run"): each function adds bytes to a page, which has room for them.
-// `specs/Lines.antt` says what a line has.
+// The printed form of answers (document 01, "Program plan-run"): each function adds bytes to a page, which has room for them, as many as it may add.
+// A ghost field of the page could not say so: with each line there is less. `specs/Lines.antt` says what a line has.
 #![tactic(auto)]
 
 ghost use Rattle.std.specs.Prelude.{◌≡◌, ◌++◌, ◌+◌, ◌*◌, ◌/◌, ◌<◌, ◌≤◌, length};
@@ -88,7 +88,7 @@ fn number_line<const N: usize>(page: &mut ArrayVec<u8, N>, name: &[u8], numbers:
 }
 
 // The plan line.
-#[tactic(auto, unfolding(crate::specs::Bytes::bytes, crate::specs::Lines::number_fields, crate::specs::Lines::plan_line))]
+#[tactic(auto, unfolding(crate::specs::Bytes::bytes, crate::specs::Lines::plan_line))]
 pub fn plan_text<const N: usize>(
     page: &mut ArrayVec<u8, N>,
     number: usize,
@@ -158,7 +158,7 @@ fn end_line<const N: usize>(page: &mut ArrayVec<u8, N>, n: usize, s: f64, offset
     line_feed(page);
 }
 
-#[tactic(auto, using(crate::specs::Page::adds_none, crate::specs::Page::adds_more, crate::specs::Each::lane_lines_more), unfolding(crate::specs::Bytes::bytes, crate::specs::Lines::number_fields, crate::specs::Lines::lane_line, crate::specs::Lines::lane_lines))]
+#[tactic(auto, using(crate::specs::Page::adds_none), unfolding(crate::specs::Lines::lane_lines))]
 fn lane_lines<const N: usize>(page: &mut ArrayVec<u8, N>, ns: &[usize])
     requires { array_vec_len page.old + 26 * length ns.now ≤ N }
     ensures { Adds (lane_lines ns.now (length ns.now)) (26 * length ns.now) page.old page.new }
@@ -232,7 +232,7 @@ pub fn route_text<const N: usize>(
 }
 
 // An advance's answer: its line and its positions.
-#[tactic(auto, unfolding(crate::specs::Bytes::bytes, crate::specs::Lines::number_fields, crate::specs::Lines::advance_line, crate::specs::Lines::advance_text))]
+#[tactic(auto, unfolding(crate::specs::Bytes::bytes, crate::specs::Lines::advance_line, crate::specs::Lines::advance_text))]
 pub fn advance_text<const N: usize>(
     page: &mut ArrayVec<u8, N>,
     number: usize,
@@ -249,7 +249,7 @@ pub fn advance_text<const N: usize>(
 }
 
 // A beside's answer: its line and the position.
-#[tactic(auto, unfolding(crate::specs::Bytes::bytes, crate::specs::Lines::number_fields, crate::specs::Lines::beside_line, crate::specs::Lines::beside_text))]
+#[tactic(auto, unfolding(crate::specs::Bytes::bytes, crate::specs::Lines::beside_line, crate::specs::Lines::beside_text))]
 pub fn beside_text<const N: usize>(
     page: &mut ArrayVec<u8, N>,
     number: usize,

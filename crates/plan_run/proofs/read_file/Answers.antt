@@ -1,9 +1,8 @@
-use Rattle.std.proofs.Common.{Err, Ok, Result, ◌≡◌, ℕ, ◌+◌, ◌-◌, ◌≤◌, List, ◌++◌, rules}
+use Rattle.std.proofs.Common.{◌≡◌, ℕ, ◌+◌, ◌-◌, ◌≤◌, List, ◌++◌, rules}
 use Rattle.std.proofs.Common.{arith, length, take, slice_range, sym, ap, ◌∙◌, subst, le_refl, drop_at, length-take-le}
-use Rattle.std.specs.Prelude.{OnErr}
 use Rattle.std.proofs.lemmas.Slice.{take-put_mid_below}
 use Rattle.std.specs.Io.KnownBytes.{Consumes}
-use Rattle.std.proofs.KnownBytes.{Consumes-kept, Consumes-trans}
+use Rattle.std.proofs.KnownBytes.{Consumes-trans}
 use borrow.Rule.Slice.PartMut.{put_mid, post_of}
 use lib.Seq.{take-add, take-append-le}
 use Rattle.plan_run.proofs.read_file.Goals as goal
@@ -32,13 +31,3 @@ loop-len-preserved g c =
     let joined = take_split from (from + c.in_ok-n.n) c.loop-len.file put (omega arith) kept in
     let read = Consumes-trans _ _ _ _ _ c.loop-len.invariant.2 c.in_ok-n.ensures.bytes.0 in
     (search rules, search rules, subst (Consumes _ _) (ap (λ l. take from c.loop-len.file ++ l) (sym part) ∙ joined) read)
-
-on_err : {T E P : Type 0} (r : Result T E) → P → OnErr r P
-on_err (Ok x) p = tt
-on_err (Err e) p = p
-
-pub returns-in_err-n-clause-failed : goal.returns-in_err-n-clause-failed
-returns-in_err-n-clause-failed g c =
-    let kept = Consumes-kept _ _ _ _ c.loop-len.invariant.2 c.in_err-n.ensures.bytes in
-    let front = take-put_mid_below _ _ _ _ _ (le_refl _) c.loop-len.invariant.1 in
-    on_err c.from_residual.result (c.loop-len.len, search rules, subst (Consumes _ _) (sym front) kept)

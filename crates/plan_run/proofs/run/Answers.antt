@@ -1,7 +1,7 @@
 -- Each turn adds its piece to what is written.
 use Rattle.std.proofs.Common.{Option, ℕ, ◌<◌, length, subst, sym}
 use Rattle.replies.specs.Ending.{first_start, next_less, to_come}
-use Rattle.plan_run.proofs.Text.{begun, finished, further}
+use Rattle.plan_run.proofs.Text.{begun, further}
 use Rattle.plan_run.proofs.run.Goals as goal
 
 pub loop-next-init : goal.loop-next-init
@@ -23,6 +23,3 @@ loop-next-preserved g c =
       (next_less c.args.file.now c.in-Some.at W so_far.0).0,
       further c.args.file.now so_far.1 W c.as_slice-in-Some.ensures.value c.in_ok-write_all-2.ensures.bytes,
     )
-
-pub returns : goal.returns
-returns g c = let so_far = rw c.in_default.is at c.loop-next.invariant in finished so_far.1

@@ -6,7 +6,6 @@ use Rattle.text.specs.Page.{adds_length, adds_more}
 use Rattle.text.proofs.number_line.Goals as goal
 
 pub loop-n-preserved : goal.loop-n-preserved
-unfolding number_fields
 loop-n-preserved g c =
     let P = c.number_field.ensures in
     let l = adds_length P in
@@ -21,7 +20,6 @@ loop-n-preserved g c =
     )
 
 pub returns : goal.returns
-unfolding number_fields
 returns g c =
     let P = c.line_feed.ensures in
     let all = rw (drop_all c.loop-n.n-index c.args.numbers.now c.loop-n-test.false) at c.loop-n.invariant.0 in
