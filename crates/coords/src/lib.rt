@@ -125,6 +125,8 @@ impl Vector {
     }
 }
 
+// Each operator goes by component: only a macro could write the five alike, and an impl stands in no macro here.
+
 // The displacement from `other` to here.
 impl Sub for Point {
     type Output = Vector;

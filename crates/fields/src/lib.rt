@@ -1,4 +1,5 @@
 // Little-endian fields of a slice of bytes. Each sum is the definition's own: from_le_bytes would first want the bytes put into an array.
+// Each width takes the two halves from the width before: one function over the width would be a loop over bytes.
 #![tactic(auto)]
 
 ghost use Rattle.std.specs.Prelude.{◌≡◌, ◌+◌, ◌≤◌, ◌<◌, length};

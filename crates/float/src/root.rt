@@ -28,7 +28,8 @@ fn newton(n: u64, g: u64) -> u64
     (g + n / g) / 2
 }
 
-// The whole part of √n. The second step ends there or above; the loop steps back, at most once as far as runs show.
+// The whole part of √n. The second step ends there or above; the loop steps back while the square is too large,
+// at most once as far as runs show, and no range says how often.
 fn whole_root(n: u64) -> u64
     requires { Wide n }
     ensures { Whole n result }

@@ -20,7 +20,7 @@ fn write_lane_cumulative(points: &[f32], first: usize, count: usize, cumulative:
     write_cumulative(&points[from..to], &mut cumulative[first..end]);
 }
 
-// Its tangents.
+// Its tangents. One function for these and the arc lengths would be passed all that differs: numbers a point, ends, what to write.
 fn write_lane_tangents(
     points: &[f32],
     first: usize,

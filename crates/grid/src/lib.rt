@@ -32,16 +32,11 @@ impl Aabb {
     }
 
     // This box with the point (x, y) taken in: one step of the Rust's `around`.
-    #[tactic(auto, unfolding(crate::specs::Grid::grown))]
+    #[tactic(auto, unfolding(crate::specs::Grid::grown, crate::specs::Grid::merge))]
     pub fn grown(self, x: f32, y: f32) -> Aabb
         ensures { result ≡ grown self x y }
     {
-        Aabb {
-            min_x: float::min(self.min_x, x),
-            max_x: float::max(self.max_x, x),
-            min_y: float::min(self.min_y, y),
-            max_y: float::max(self.max_y, y),
-        }
+        self.merge(Aabb::at(x, y))
     }
 
     // This box grown by `r` on every side. For `r` 0 a maximum of -0 becomes +0.

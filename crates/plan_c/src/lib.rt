@@ -1,4 +1,4 @@
-// `read_plan` for Rust and C, to compare it with another reader.
+// `read_plan` for Rust and C, to compare it with another reader. C lends the tables one by one.
 #![tactic(auto)]
 
 ghost use Rattle.plan_format.specs.Tables.{tables};
