@@ -2,7 +2,7 @@
 // sampled, `specs/Kept.antt` which of them are kept and how they stand in a list.
 #![tactic(auto)]
 
-ghost use Rattle.std.specs.Prelude.{◌≡◌, ◌*◌, ◌+◌, ◌-◌, ◌<◌, ◌≤◌, length};
+ghost use Rattle.std.specs.Prelude.{◌≡◌, ◌*◌, ◌+◌, ◌-◌, ◌/◌, ◌<◌, ◌≤◌, length};
 ghost use Rattle.beside.specs.Sides.{direction_number};
 ghost use Rattle.geometry.specs.Locate.{point_along};
 ghost use Rattle.geometry.specs.Partition.{Rising};
@@ -26,8 +26,26 @@ pub struct LinkedLanes<'a> {
     pub ghost linked: { AllLinked fans.now lanes.count links.now },
 }
 
-// How many points are kept, and the last of them.
+// How many points a list has room for. One more than that can be counted.
 #[derive(Clone, Copy)]
+pub struct Room {
+    pub points: usize,
+    pub ghost countable: { points < 18446744073709551615 },
+}
+
+impl Room {
+    // The room in a list of x y z of each.
+    pub fn of(list: &[f32]) -> Room
+        ensures { result.points ≡ length list.now / 3 }
+    {
+        Room {
+            points: list.len() / 3,
+        }
+    }
+}
+
+// How many points are kept, and the last of them.
+#[derive(Clone, Copy, Default)]
 pub struct Kept {
     pub count: usize,
     pub last: Point,
@@ -60,10 +78,11 @@ fn advance(from: f32, end: f32, dist: f32) -> f32
 }
 
 // Writes p as point i, where the list has room.
+// Three floats by hand as geometry's `write_vector` has them: one function for points and vectors would be passed the three, no plainer.
 fn put(out: &mut [f32], i: usize, p: Point)
     ensures { out.new ≡ put_at out.old i p }
 {
-    if out.len() / 3 <= i {
+    if Room::of(out).points <= i {
         return;
     }
     let k = 3 * i;
@@ -112,16 +131,9 @@ impl Kept {
 
     // Points along a lane's centerline from arc length `entry` to `exit`, spaced ~`ROUTE_STEP`; no more once over `room` are kept. The last sample
     // stands outside the loop: `steps` may be the largest usize, where `steps + 1` would wrap.
-    fn sample_segment(
-        &mut self,
-        line: Polyline,
-        entry: f32,
-        exit: f32,
-        room: usize,
-        out: &mut [f32],
-    )
-        requires { Rising line.cumulative.now × (self.old.count ≤ room) × (room < 18446744073709551615) }
-        ensures { SegmentSampled line.entry.points.now line.entry.cumulative.now entry exit room self.old out.old self.new out.new }
+    fn sample_segment(&mut self, line: Polyline, entry: f32, exit: f32, room: Room, out: &mut [f32])
+        requires { Rising line.cumulative.now × (self.old.count ≤ room.points) }
+        ensures { SegmentSampled line.entry.points.now line.entry.cumulative.now entry exit room.points self.old out.old self.new out.new }
     {
         let span = exit - entry;
         if float::abs(span) < 1e-4 {
@@ -131,7 +143,7 @@ impl Kept {
         let steps = steps_of(span);
         for k in 0..steps {
             self.push_dedup(line.point_at(sample_at(entry, span, steps, k)), out);
-            if room < self.count {
+            if room.points < self.count {
                 return;
             }
         }
@@ -145,15 +157,14 @@ impl Kept {
         i: usize,
         entry: f32,
         exit: f32,
-        room: usize,
+        room: Room,
         out: &mut [f32],
     )
-        requires { (i < lanes.now.count) × (self.old.count ≤ room) × (room < 18446744073709551615) }
+        requires { (i < lanes.now.count) × (self.old.count ≤ room.points) }
         ensures { SegmentSampled (points_of lanes.now.rows.now lanes.now.points.now i) (arcs_of lanes.now.rows.now lanes.now.cumulative.now i)
-            entry exit room self.old out.old self.new out.new }
+            entry exit room.points self.old out.old self.new out.new }
     {
-        let (points, cumulative) = lanes.line(i);
-        self.sample_segment(Polyline { points, cumulative }, entry, exit, room, out);
+        self.sample_segment(lanes.line(i), entry, exit, room, out);
     }
 }
 
@@ -208,8 +219,7 @@ fn point_on(lanes: &Lanes, i: usize, s: f32) -> Point
     requires { i < lanes.now.count }
     ensures { result ≡ point_on lanes.now.rows.now lanes.now.points.now lanes.now.cumulative.now i s }
 {
-    let (points, arcs) = lanes.line(i);
-    geometry::point_at(points, arcs, s)
+    lanes.line(i).point_at(s)
 }
 
 // Where lane i is entered from p: the arc length of the nearest point on it.
@@ -217,9 +227,7 @@ fn entry_on(lanes: &Lanes, i: usize, p: Point) -> f32
     requires { i < lanes.now.count }
     ensures { result ≡ entry_on lanes.now.rows.now lanes.now.points.now lanes.now.cumulative.now i p }
 {
-    let (points, arcs) = lanes.line(i);
-    let q = geometry::project(points, arcs, p);
-    q.s
+    lanes.line(i).project(p).s
 }
 
 impl LinkedLanes<'_> {
@@ -260,27 +268,20 @@ impl LinkedLanes<'_> {
         path: &[usize],
         start_s: f32,
         goal_s: f32,
-        room: usize,
+        room: Room,
         out: &mut [f32],
     ) -> Kept
-        requires { PathRows path.now self.now.lanes.count × (room < 18446744073709551615) }
-        ensures { Sampled room (sample_route (tables_in self.now) path.now start_s goal_s) out.old result out.new }
+        requires { PathRows path.now self.now.lanes.count }
+        ensures { Sampled room.points (sample_route (tables_in self.now) path.now start_s goal_s) out.old result out.new }
     {
         let lanes = &self.lanes;
         let mut i = path[0];
         let mut entry = float::clamp(start_s, 0.0, lanes.length(i));
-        let mut kept = Kept {
-            count: 0,
-            last: Point {
-                x: 0.0,
-                y: 0.0,
-                z: 0.0,
-            },
-        };
+        let mut kept = Kept::default();
         for next in &path[1..] {
             let exit = self.exit_for(i, *next, entry);
             kept.sample_lane(lanes, i, entry, exit, room, out);
-            if room < kept.count {
+            if room.points < kept.count {
                 return kept;
             }
             entry = entry_on(lanes, *next, point_on(lanes, i, exit));

@@ -9,7 +9,7 @@ pub returns-then-abs : goal.returns-then-abs
 returns-then-abs c =
     λ qs old e f.
     let a = c.args in
-    segment_point (point_along a.line.points.now a.line.cumulative.now) a.entry a.exit c.abs.result c.abs.ensures qs a.room
+    segment_point (point_along a.line.points.now a.line.cumulative.now) a.entry a.exit c.abs.result c.abs.ensures qs a.room.points
     c.point_at.result old _ _ _ _ c.if-abs.true c.point_at.ensures e f c.push_dedup.ensures.kept c.push_dedup.ensures.written
     c.requires.1
 
@@ -20,10 +20,10 @@ returns-then-room-self c =
     let l = c.loop-k in
     let point = point_along a.line.points.now a.line.cumulative.now in
     let p = c.point_at-in-loop-k.ensures ∙ ap point c.sample_at.ensures in
-    sampled_as a.room _ _ old _ _ (segment_samples point a.entry a.exit c.abs.result c.abs.ensures qs c.steps_of-steps.result
+    sampled_as a.room.points _ _ old _ _ (segment_samples point a.entry a.exit c.abs.result c.abs.ensures qs c.steps_of-steps.result
     c.if-abs.false c.steps_of-steps.ensures)
     (sampling_stops point a.entry (sub binary32 a.exit a.entry) c.steps_of-steps.result l.k _ old _ _ _ _ (l.invariant.sampled qs old e f)
-    (rw p at c.push_dedup-in-loop-k.ensures.kept) (rw p at c.push_dedup-in-loop-k.ensures.written) a.room l.invariant.few c.if-room-self.true)
+    (rw p at c.push_dedup-in-loop-k.ensures.kept) (rw p at c.push_dedup-in-loop-k.ensures.written) a.room.points l.invariant.few c.if-room-self.true)
 
 pub loop-k-preserved : goal.loop-k-preserved
 loop-k-preserved c =
@@ -46,7 +46,7 @@ returns c =
     let l = c.loop-k in
     let point = point_along a.line.points.now a.line.cumulative.now in
     let p = c.point_at-2.ensures ∙ ap point c.sample_at-2.ensures in
-    sampled_as a.room _ _ old _ _ (segment_samples point a.entry a.exit c.abs.result c.abs.ensures qs c.steps_of-steps.result
+    sampled_as a.room.points _ _ old _ _ (segment_samples point a.entry a.exit c.abs.result c.abs.ensures qs c.steps_of-steps.result
     c.if-abs.false c.steps_of-steps.ensures)
     (sampling_ends point a.entry (sub binary32 a.exit a.entry) c.steps_of-steps.result l.k _ old _ _ _ _ (l.invariant.sampled qs old e f)
-    (omega arith) (rw p at c.push_dedup-2.ensures.kept) (rw p at c.push_dedup-2.ensures.written) a.room l.invariant.few)
+    (omega arith) (rw p at c.push_dedup-2.ensures.kept) (rw p at c.push_dedup-2.ensures.written) a.room.points l.invariant.few)

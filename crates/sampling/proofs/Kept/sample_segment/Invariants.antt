@@ -9,7 +9,7 @@ use Rattle.sampling.proofs.Kept.sample_segment.Given as goal
 
 abbrev pub invariant-loop-k : goal.invariant-loop-k
 invariant-loop-k l = record {
-  few : l.self.count ≤ l.room;
+  few : l.self.count ≤ l.room.points;
   same : length l.out ≡ length l.initial.out;
   sampled :
       (qs : List Point) (old : List Float) → l.initial.self ≡ kept_of qs → l.initial.out ≡ laid qs old

@@ -9,6 +9,6 @@ abbrev pub invariant-loop-next : goal.invariant-loop-next
 invariant-loop-next l = record {
   routed :
       Routing (tables_in l.self) l.goal_s l.path l.self.lanes.count (sample_route (tables_in l.self) l.path l.start_s l.goal_s) l.initial.out
-      l.room (l.next-index + 1) l.i l.entry l.kept l.out;
+      l.room.points (l.next-index + 1) l.i l.entry l.kept l.out;
   same : length l.out ≡ length l.initial.out;
 }
