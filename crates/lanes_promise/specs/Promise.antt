@@ -40,7 +40,8 @@ Demand3 file t from to chain waypoints r chain' waypoints' =
 module _ (file : List ℕ) (B : Bytes file) (t t' : LaneTables) (from to : Point) (chain chain' : List ℕ) (waypoints waypoints' : List Float)
     (r : RouteAnswer) (C : Calls (λ (d : Decoded). route_of d from to chain waypoints) 0 file (lists_of r chain' waypoints') t t')
   where
-    lists : too_short t ≡ false → (p : Plan) → decode 0 file ≡ accepted p → lists_of r chain' waypoints' ≡ route_of (accepted p) from to chain waypoints
+    lists : too_short t ≡ false → (p : Plan) → decode 0 file ≡ accepted p
+        → lists_of r chain' waypoints' ≡ route_of (accepted p) from to chain waypoints
     unfolding opened
     lists long p is = rw (long, is) at C.answer_is
 

@@ -66,5 +66,6 @@ module _ (p : Plan) (A : Accepted p) (n : ℕ) (ls : List ℕ) (xs cs : List Flo
   routable_of = rw (tables_are, few) (routable p A)
 
   pub route_of_law : (from to : Point) (chainRoom waypointRoom : ℕ)
-      → fitted chainRoom waypointRoom (routed (route_tables ls xs cs fs ks) n (lanes_from ls xs n 0) from to) ≡ route_in p from to chainRoom waypointRoom
+      → fitted chainRoom waypointRoom (routed (route_tables ls xs cs fs ks) n (lanes_from ls xs n 0) from to)
+      ≡ route_in p from to chainRoom waypointRoom
   route_of_law from to chainRoom waypointRoom = rw (tables_are, l, x, few) (route_is p A from to chainRoom waypointRoom)

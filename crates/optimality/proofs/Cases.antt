@@ -86,7 +86,8 @@ searches : (numbered (lane_number four_lanes) (searched_in four_lanes four_graph
     × (numbered (lane_number (lane_row 1 (lane_row 2 []))) (searched_in (lane_row 1 (lane_row 2 [])) missing_graph 0 1) ≡ found (1 ∷ 2 ∷ []) m30)
     × (numbered (lane_number (lane_row 1 [])) (searched_in (lane_row 1 []) closed_graph 0 0) ≡ found (1 ∷ 1 ∷ []) m8)
     × (searched_in (lane_row 1 []) lone_graph 0 0 ≡ refused)
-unfolding searched run settled expanded relaxed least_open marked rebuild blank edges out of_bits lt add sum round size units odd count_trailing_zeros
+unfolding searched run settled expanded relaxed least_open marked rebuild blank edges out of_bits lt add sum round size units odd
+    count_trailing_zeros
 searches = (refl, refl, refl, refl, refl)
 
 -- ---- the heap form
@@ -139,7 +140,8 @@ abbrev to_nine : Entry Float
 to_nine = record { cost = m8; lane = 9 }
 
 missing_pushed : (heap_begun missing_edges 1 2).heap ≡ to_two ∷ to_nine ∷ []
-unfolding push_all push edges_from linked index_of of_bits lt add sum round size units odd count_trailing_zeros
+unfolding push_all push edges_from linked index_of of_bits lt add sum round size units odd
+    count_trailing_zeros
 missing_pushed = refl
 
 missing_run : HeapRun missing_edges 1 2 (found (1 ∷ 2 ∷ []) m30)
@@ -158,11 +160,13 @@ chains = (refl, refl, refl, refl)
 only_the_start :
     (searched f32_costs (lane_number four_lanes) (λ (u : ℕ). cond (eqb u 0) (out four_graph u) []) 256 4 0 3 ≡ refused)
     × (is_chain four_links 1 4 (1 ∷ 4 ∷ []) ≡ false)
-unfolding searched run settled expanded relaxed least_open marked rebuild blank edges out is_chain leads_to has_link of_bits lt add sum round size units
+unfolding searched run settled expanded relaxed least_open marked rebuild blank edges out is_chain leads_to has_link of_bits lt add sum round
+    size units
     odd count_trailing_zeros
 only_the_start = (refl, refl)
 
 costs : (chain_cost (1 ∷ 2 ∷ 3 ∷ 4 ∷ []) (m8 ∷ m8 ∷ m8 ∷ m8 ∷ []) four_links (1 ∷ 3 ∷ 4 ∷ []) ≡ m16)
     × (chain_cost (1 ∷ 2 ∷ []) (m32 ∷ m8 ∷ []) (link 1 0 2 ∷ link 1 2 2 ∷ []) (1 ∷ 2 ∷ []) ≡ m30)
-unfolding chain_cost add_steps step_cost has_link index_of of_bits lt add sum round size units odd count_trailing_zeros
+unfolding chain_cost add_steps step_cost has_link index_of of_bits lt add sum round size units odd
+    count_trailing_zeros
 costs = (refl, refl)

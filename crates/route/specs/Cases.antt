@@ -78,10 +78,10 @@ straight = plan (lane 0 1 (at 0) (at 8) ∷ lane 0 2 (at 8) (at 16) ∷ []) (lin
 -- ---- the answers
 
 unfoldable sampled : Plan → List ℕ → Float → Float → List Point
-unfolding tables_of plan_rows lane_rows rows rows_from linked index_of is_ahead sample_route sample_lanes sample_span sample_from steps_of exit_for exit_at
-    travel_end is_forward nearer_end changes_off leads toward pushed cumulative_of arc_at point_at point_along locate_of segment_of local_t leading
-    project_segments project_to nearer_at fraction_along hit_along left_normal length_of normalize_or cross_of abs_of signum_of ceil_of sqrt_of add sub mul div
-    lt le eq of_bits to_unsigned of_int is_nan
+unfolding tables_of plan_rows lane_rows rows rows_from linked index_of is_ahead sample_route sample_lanes sample_span sample_from steps_of exit_for
+    exit_at travel_end is_forward nearer_end changes_off leads toward pushed cumulative_of arc_at point_at point_along locate_of segment_of local_t leading
+    project_segments project_to nearer_at fraction_along hit_along left_normal length_of normalize_or cross_of abs_of signum_of ceil_of sqrt_of
+    add sub mul div lt le eq of_bits to_unsigned of_int is_nan
 sampled p path s t = sample_route (tables_of p) path s t
 
 unfoldable route : Plan → Point → Point → ℕ → ℕ → Routed

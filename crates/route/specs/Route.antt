@@ -1,5 +1,6 @@
 -- The route query: document 01's numbers 9, 10, 11 and 14, the chain of lanes, its points and its length. Definitions only.
-use Rattle.std.specs.Prelude.{Bool, cond, false, true, ◌&&◌, List, [], map, ◌++◌, ◌∷◌, ◌≡◌, suc, zero, ℕ, ◌/◌, eqb, leb, Float, length, Option, None, Some}
+use Rattle.std.specs.Prelude.{Bool, cond, false, true, ◌&&◌, List, [], map, ◌++◌, ◌∷◌, ◌≡◌, suc, zero, ℕ, ◌/◌, eqb, leb, Float, length}
+use Rattle.std.specs.Prelude.{Option, None, Some}
 use Rattle.branches.specs.Tables.{AllLaid}
 use Rattle.coords.specs.Coords.{finite_point, zero⁺}
 use Rattle.coords.specs.declared.Point.{Point}

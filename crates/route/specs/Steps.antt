@@ -1,7 +1,8 @@
 -- Laws of the route query's steps: the lengths, the count, the lists.
-use Rattle.std.specs.Prelude.{Bool, true, ◌&&◌, List, [], map, ◌++◌, ◌∷◌, refl, ◌≡◌, suc, zero, ℕ, ◌*◌, ◌+◌, ◌/◌, ◌<◌, ◌≤◌, Float, get_or, set, take, Option, None, Some, slice_index_or}
+use Rattle.std.specs.Prelude.{Bool, true, ◌&&◌, List, [], map, ◌++◌, ◌∷◌, refl, ◌≡◌, suc, zero, ℕ, ◌*◌, ◌+◌, ◌/◌, ◌<◌, ◌≤◌, Float, get_or, set, take}
+use Rattle.std.specs.Prelude.{Option, None, Some, slice_index_or}
 use Rattle.std.proofs.Math.Bool.{cond, false}
-use Rattle.std.proofs.Common.{subst, sym, ◌∙◌, add-one, length-append, length-take-le, take_all, take-suc}
+use Rattle.std.proofs.Common.{subst, sym, ◌∙◌, add-one, length-append, length-take-le, take-suc}
 use Rattle.std.proofs.lemmas.List.{map-append}
 use Rattle.std.proofs.Math.Path.{ap, ap₂}
 use native.Mathlib.Omega.{arith}
@@ -16,7 +17,7 @@ use Rattle.network.specs.Lanes.{Lane, drives_table}
 use Rattle.network.specs.Nearest.{nearest_lane}
 use Rattle.network.specs.Tables.{lanes_from, told}
 use Rattle.network.specs.declared.Nearest.{Nearest}
-use Rattle.rows.specs.Rows.{arcs_of, end_point, lane_number, length_of}
+use Rattle.rows.specs.Rows.{lane_number, length_of}
 use Rattle.sampling.specs.Kept.{first_of, flat, laid}
 use Rattle.sampling.specs.Passes.{AllLinked, Sampled, first_all, laid_flat, length_first, length_flat}
 use Rattle.sampling.specs.Sampling.{RouteTables, sample_route}
@@ -28,29 +29,10 @@ use Rattle.route.specs.declared.RouteAnswer.{RouteAnswer}
 
 -- ---- what the rows must be
 
--- the arc lengths of n lanes stand in the tables
-abbrev pub AllLong : List ℕ → List Float → ℕ → Type 0
-AllLong lanes cumulative n =
-    (i : ℕ) → i < n → (6 * i + 5 < length lanes) × (end_point lanes i ≤ length cumulative) × (0 < length (arcs_of lanes cumulative i))
-
 -- the row that is nearest is one of n lanes
 abbrev pub RowIn : ℕ → Option Nearest → Type 0
 RowIn n None = Unit
 RowIn n (Some b) = b.row < n
-
-module _ (T : RouteTables) (n : ℕ) (R : Routable T n) where
-  pub all_long : AllLong T.lanes T.cumulative n
-  all_long i h = let l = R.laid i h in (l.lane_row, l.arcs_end, omega (arith, l.line.two))
-
-  pub all_linked : AllLinked T.fans n T.links
-  all_linked i h = record { fan = omega (arith, R.readable.fans, h); rows = R.readable.links i h }
-
-  pub lane_rows_law : 6 * n ≤ length T.lanes
-  lane_rows_law = go n (λ i h. (R.laid i h).lane_row)
-    where
-      go : (m : ℕ) → ((i : ℕ) → i < m → 6 * i + 5 < length T.lanes) → 6 * m ≤ length T.lanes
-      go zero each = omega arith
-      go (suc m) each = let e = each m (omega arith) in omega arith
 
 -- ---- the lengths
 
@@ -84,9 +66,6 @@ all_written all old r out S h =
 
 -- ---- the chain of numbers
 
-pub chain_start : (lanes path old : List ℕ) → old ≡ over (map (lane_number lanes) (take 0 path)) old
-chain_start lanes path old = refl
-
 pub chain_next : (lanes path old out : List ℕ) (k : ℕ) → k < length path → k < length old
     → out ≡ over (map (lane_number lanes) (take k path)) old
     → set out k (lane_number lanes (get_or path k 0)) ≡ over (map (lane_number lanes) (take (k + 1) path)) old
@@ -99,10 +78,6 @@ chain_next lanes path old out k h l e =
     ap (λ (o : List ℕ). set o k (number (get_or path k 0))) e
     ∙ over_next (map number (take k path)) old k (number (get_or path k 0)) n l
     ∙ ap (λ (xs : List ℕ). over xs old) (sym more)
-
-pub chain_whole : (lanes path old out : List ℕ) (k : ℕ) → length path ≤ k → out ≡ over (map (lane_number lanes) (take k path)) old
-    → out ≡ over (map (lane_number lanes) path) old
-chain_whole lanes path old out k h e = e ∙ ap (λ (xs : List ℕ). over (map (lane_number lanes) xs) old) (take_all k path h)
 
 -- ---- the answer
 
@@ -181,14 +156,10 @@ module _ (T : RouteTables) (path : List ℕ) (cost s t : Float) where
 -- ---- which case it is, into lists with so much room
 
 module _ (T : RouteTables) (n chainRoom waypointRoom : ℕ) where
-  -- no path, and a path
+  -- no path
   pub path_refused : (s t : Float) (X : Result Float) → X ≡ refused → refusal 11 ≡ fitted chainRoom waypointRoom (followed T s t X)
   unfolding followed
   path_refused s t X e = refusal_fits chainRoom waypointRoom 11 ∙ ap (λ (Y : Result Float). fitted chainRoom waypointRoom (followed T s t Y)) (sym e)
-
-  pub path_taken : (s t cost : Float) (path : List ℕ) (X : Result Float) → X ≡ found path cost
-      → fitted chainRoom waypointRoom (followed T s t (found path cost)) ≡ fitted chainRoom waypointRoom (followed T s t X)
-  path_taken s t cost path X e = ap (λ (Y : Result Float). fitted chainRoom waypointRoom (followed T s t Y)) (sym e)
 
   -- no lane drives, and two lanes
   module _ (from to : Option Nearest) where
@@ -199,7 +170,9 @@ module _ (T : RouteTables) (n chainRoom waypointRoom : ℕ) where
     module _ (a : Nearest) (e : from ≡ Some a) where
       pub to_none : to ≡ None → refusal 10 ≡ fitted chainRoom waypointRoom (between T n from to)
       unfolding between
-      to_none f = refusal_fits chainRoom waypointRoom 10 ∙ ap₂ (λ (x y : Option Nearest). fitted chainRoom waypointRoom (between T n x y)) (sym e) (sym f)
+      to_none f =
+          refusal_fits chainRoom waypointRoom 10
+          ∙ ap₂ (λ (x y : Option Nearest). fitted chainRoom waypointRoom (between T n x y)) (sym e) (sym f)
 
       pub both_found : (b : Nearest) → to ≡ Some b
           → fitted chainRoom waypointRoom
@@ -226,9 +199,6 @@ module _ (T : RouteTables) (n chainRoom waypointRoom : ℕ) where
         (cond a (between T n (told (nearest_lane drives_table ls from)) (told (nearest_lane drives_table ls to))) (refusal 9))) (sym t ∙ e)
 
 -- ---- the rows that are nearest
-
-pub row_of : (n : ℕ) (x : Option Nearest) (b : Nearest) → RowIn n x → x ≡ Some b → b.row < n
-row_of n x b h e = subst (RowIn n) e h
 
 module _ (lanes : List ℕ) (points : List Float) (n : ℕ) where
   abbrev nearest : Point → Option Nearest

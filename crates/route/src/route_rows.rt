@@ -1,15 +1,23 @@
 // What the route query reads.
-ghost use Rattle.sampling.specs.Sampling.{route_tables};
+ghost use Rattle.sampling.specs.Passes.{PathRows};
+ghost use Rattle.sampling.specs.Structs.{tables_in};
 ghost use Rattle.route.specs.Route.{Routable};
 
-// The rows of a plan's n lanes.
+use sampling::LinkedLanes;
+
+// The rows of a plan's lanes, which can be searched too.
 #[derive(Clone, Copy)]
 pub(crate) struct RouteRows<'a> {
-    pub n: usize,
-    pub lanes: &'a [usize],
-    pub points: &'a [f32],
-    pub cumulative: &'a [f32],
-    pub fans: &'a [usize],
-    pub links: &'a [usize],
-    pub ghost routable: { Routable (route_tables lanes.now points.now cumulative.now fans.now links.now) n },
+    pub linked: LinkedLanes<'a>,
+    pub ghost routable: { Routable (tables_in linked) linked.lanes.count },
+}
+
+// A path of lanes, from the arc length `s` on the first to `t` on the last.
+#[derive(Clone, Copy)]
+pub(crate) struct Drive<'a> {
+    pub linked: LinkedLanes<'a>,
+    pub path: &'a [usize],
+    pub s: f32,
+    pub t: f32,
+    pub ghost in_rows: { PathRows path.now linked.lanes.count },
 }

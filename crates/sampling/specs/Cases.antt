@@ -164,7 +164,8 @@ meeting x z =
 
 -- the arc length of the end taken
 unfoldable end_taken : Float → Float → Float
-unfolding travel_end is_forward nearer_end project_segments project_to nearer_at fraction_along hit_along left_normal point_at length_of normalize_or cross_of
+unfolding travel_end is_forward nearer_end project_segments project_to nearer_at fraction_along hit_along left_normal point_at length_of
+    normalize_or cross_of
     sqrt_of
 end_taken x z = let T = meeting x z in travel_end (T.lanes) (T.points) (T.cumulative) 0 1
 

@@ -199,7 +199,8 @@ module _ (point : Float → Point) (entry span : Float) (steps : ℕ) where
   from_last k qs = refl
 
   from_next : (n k : ℕ) (qs : List Point)
-      → sample_from point entry span steps (suc n) k qs ≡ sample_from point entry span steps n (k + 1) (pushed qs (point (sample_at entry span steps k)))
+      → sample_from point entry span steps (suc n) k qs
+      ≡ sample_from point entry span steps n (k + 1) (pushed qs (point (sample_at entry span steps k)))
   unfolding sample_from
   from_next n k qs = refl
 
@@ -264,14 +265,6 @@ sampling_ends point entry span steps k all old r out r' out' S h e f room few =
     sampled_all room (pushed S.points p) all old r' out' (e ∙ ap (λ (q : Kept). pushing q p) S.kept ∙ pushed_kept S.points p)
     (f ∙ ap₂ (λ (q : Kept) (o : List Float). putting q p o) S.kept S.written ∙ pushed_laid S.points p old) (omega arith)
     (sym (from_last point entry span steps steps S.points) ∙ same)
-
--- before the first sample
-pub sampling_starts : (point : Float → Point) (entry span : Float) (steps : ℕ) (qs : List Point) (old : List Float) (r : Kept)
-    (out : List Float) → r ≡ kept_of qs → out ≡ laid qs old
-    → Sampling point entry span steps 0 (sample_from point entry span steps (steps + 1) 0 qs) old r out
-sampling_starts point entry span steps qs old r out e f =
-    let n : suc (steps - 0) ≡ steps + 1 = omega arith in
-    record { points = qs; kept = e; written = f; rest = ap (λ (m : ℕ). sample_from point entry span steps m 0 qs) n }
 
 -- what the test of the span decides; a is its size
 module _ (point : Float → Point) (entry exit a : Float) (e : a ≡ abs_of (sub binary32 exit entry)) (qs : List Point) where

@@ -92,7 +92,8 @@ module _ (lanes : List ℕ) (points cumulative : List Float) where
   -- `nearer_end`: whether the lane `next` lies nearer the end of lane i than its start
   unfoldable pub nearer_end : ℕ → ℕ → Bool
   nearer_end i next =
-      le (away_from lanes points cumulative next (tail_of lanes points cumulative i)) (away_from lanes points cumulative next (head_of lanes points i))
+      le (away_from lanes points cumulative next (tail_of lanes points cumulative i))
+      (away_from lanes points cumulative next (head_of lanes points i))
 
   -- whether lane i is driven along its centre line: a lane of both directions toward the next lane
   unfoldable pub is_forward : ℕ → ℕ → Bool

@@ -1,9 +1,10 @@
 -- A span is at most 2 m for each of its steps, exactly: |span| is at most 2 * steps. So the fractions k / steps of it lie at most 2 m of s apart.
--- Document 01, module 6: "Samples of one lane stand at most 2 m of s apart up to f32 rounding". `sample_at` works such a fraction out in f32; how far
--- that rounds is what the sentence leaves open, and no bound of it stands here.
+-- Document 01, module 6: "Samples of one lane stand at most 2 m of s apart up to f32 rounding". `sample_at` works such a fraction out in f32; how
+-- far that rounds is what the sentence leaves open, and no bound of it stands here.
 use Rattle.std.specs.Prelude.{Bool, not, ◌⊎◌, refl, ◌≡◌, min, suc, zero, ℕ, ◌*◌, ◌+◌, ◌-◌, ◌^◌, ◌<◌, ◌≤◌, T, ℤ, Float}
 use Rattle.std.proofs.Math.Bool.{false}
-use Rattle.std.proofs.Common.{inl, inr, ap, subst, sym, ◌∙◌, le_of_lt, le_of_mul-le-mul_right, le_trans, mul-le-mul_right, mul-one, mul-pos, arith, lit≤, pow_pos}
+use Rattle.std.proofs.Common.{inl, inr, ap, subst, sym, ◌∙◌, arith, lit≤}
+use Rattle.std.proofs.Common.{le_of_lt, le_of_mul-le-mul_right, le_trans, mul-le-mul_right, mul-one, mul-pos, pow_pos}
 use Rattle.std.proofs.Math.Nat.{pow-succ'}
 use Rattle.std.specs.Float.Ieee.{binary32, div, down, fits, is_nan, le, low, of_bits, round, to_unsigned, up}
 use Rattle.std.specs.Float.{fin, inf, nan}

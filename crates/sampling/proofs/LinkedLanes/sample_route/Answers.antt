@@ -42,7 +42,8 @@ returns-then-room-kept c =
     let l = c.loop-next in
     let R = l.invariant.routed in
     let later : l.next-index + 1 < length a.path.now = omega arith in
-    routing_stops (tables_in a.self.now) a.goal_s a.path.now a.self.now.lanes.count _ a.out.now a.room.points (l.next-index + 1) l.i l.entry l.kept l.out R
+    routing_stops (tables_in a.self.now) a.goal_s a.path.now a.self.now.lanes.count _ a.out.now a.room.points (l.next-index + 1) l.i l.entry
+    l.kept l.out R
     c.exit_for-exit.result _ _ (c.sample_lane.ensures R.points a.out.now R.kept R.written) _ later (next_row a.path.now l.next-index later)
     c.exit_for-exit.ensures c.if-room-kept.true
 
@@ -57,7 +58,8 @@ loop-next-preserved c =
     let s = a.self.now.lanes in
     let R = l.invariant.routed in
     let later : l.next-index + 1 < length a.path.now = omega arith in
-    let R' = routing_next (tables_in a.self.now) a.goal_s a.path.now s.count _ a.out.now a.room.points (l.next-index + 1) l.i l.entry l.kept l.out R
+    let R' = routing_next (tables_in a.self.now) a.goal_s a.path.now s.count _ a.out.now a.room.points (l.next-index + 1) l.i l.entry
+    l.kept l.out R
     c.exit_for-exit.result _ _ (c.sample_lane.ensures R.points a.out.now R.kept R.written) _ later (next_row a.path.now l.next-index later)
     c.exit_for-exit.ensures c.requires c.entry_on-entry.result c.if-room-kept.false
     (c.entry_on-entry.ensures ∙ ap (entry_on s.rows.now s.points.now s.cumulative.now _) c.point_on.ensures) in
@@ -68,5 +70,6 @@ returns c =
     let a = c.args in
     let l = c.loop-next in
     let R = l.invariant.routed in
-    routing_ends (tables_in a.self.now) a.goal_s a.path.now a.self.now.lanes.count _ a.out.now a.room.points (l.next-index + 1) l.i l.entry l.kept l.out R
+    routing_ends (tables_in a.self.now) a.goal_s a.path.now a.self.now.lanes.count _ a.out.now a.room.points (l.next-index + 1) l.i l.entry
+    l.kept l.out R
     c.exit_at-exit.result _ _ (c.sample_lane-2.ensures R.points a.out.now R.kept R.written) (omega arith) c.exit_at-exit.ensures

@@ -2,7 +2,7 @@
 use Rattle.std.proofs.Common.{◌≡◌, map, take}
 use Rattle.geometry.specs.Over.{over}
 use Rattle.rows.specs.Rows.{lane_number}
-use Rattle.route.proofs.route_rows.RouteRows.write_chain.Given as goal
+use Rattle.route.proofs.route_rows.Drive.write_chain.Given as goal
 
 abbrev pub invariant-loop-k : goal.invariant-loop-k
-invariant-loop-k l = l.chain ≡ over (map (lane_number l.lanes) (take l.k l.path)) l.initial.chain
+invariant-loop-k l = l.chain ≡ over (map (lane_number l.lanes) (take l.k l.self.path.now)) l.initial.chain

@@ -1,6 +1,6 @@
 -- All points fit, so the pass writes them all.
 use Rattle.route.specs.Steps.{all_written}
-use Rattle.route.proofs.route_rows.RouteRows.write_points.Goals as goal
+use Rattle.route.proofs.route_rows.Drive.write_points.Goals as goal
 
 pub returns : goal.returns
-returns c = all_written _ _ _ _ c.sample_route.ensures c.requires.1
+returns c = all_written _ _ _ _ (rw c.of.ensures at c.sample.ensures) c.requires

@@ -12,10 +12,10 @@ pub push-requires : goal.push-requires
 push-requires c =
     let r = c.args.self.now in
     let few = r.routable.readable.few in
-    let long = ap length c.loop-row.invariant ∙ length_lengths r.lanes.now r.cumulative.now c.loop-row.row in
+    let long = ap length c.loop-row.invariant ∙ length_lengths r.linked.lanes.rows.now r.linked.lanes.cumulative.now c.loop-row.row in
     (lit< tt, omega arith)
 
 pub loop-row-preserved : goal.loop-row-preserved
 loop-row-preserved c =
     let r = c.args.self.now in
-    rw (c.push.ensures.items, c.loop-row.invariant, c.lane_length.ensures, lengths_next)
+    rw (c.push.ensures.items, c.loop-row.invariant, c.length.ensures, lengths_next)
