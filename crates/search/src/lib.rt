@@ -125,6 +125,7 @@ impl Graph<'_> {
     }
 
     // The open lane of least cost, the larger number among equals.
+    // A loop and no `min_by`: `<` on floats orders no NaN, so there is no `Ordering` to give it; a `fold` would carry the same three.
     fn least(&self, search: &Search) -> Option<usize>
         ensures row { unwrap_or result 256 ≡ least_in self.now (state_of search.now) }
         ensures within { IfSome result (λ u. u < self.now.count) }

@@ -1,5 +1,5 @@
 -- `least` is `least_open`: `best` is the least of the lanes below `i`, with its cost and number.
-use Rattle.std.proofs.Common.{◌≡◌, ◌<◌, arith}
+use Rattle.std.proofs.Common.{◌<◌, arith}
 use Rattle.search.specs.Loops.{scan_skips, scan_starts, scan_takes, unreached_is}
 use Rattle.search.proofs.graph.Graph.least.Goals as goal
 use Rattle.search.proofs.graph.Graph.least.Goals.{then-is_before, else-is_before}
@@ -19,9 +19,3 @@ loop-i-preserved c =
       | then-is_before w ↦ rw (w.best-is, w.cost-is, w.number-is) (takes w.if-is_before.true)
       | else-is_before w ↦ rw (w.best-is, w.cost-is, w.number-is) (skips w.if-is_before.false)
     ]
-
-pub returns : goal.returns
-returns c =
-    let o = c.loop-i in
-    let e : o.i ≡ c.args.self.now.count = omega arith in
-    record { row = rw e at o.invariant.is; within = rw e at o.invariant.within }
