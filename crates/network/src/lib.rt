@@ -18,7 +18,7 @@ ghost use Rattle.network.specs.Tables.{CeilingIs, WinsIs, EnoughIs, MeasuredIs};
 ghost use Rattle.network.specs.Nearest.{offered, offered_in, visit_cell, visit_ring, searched, grid_for, nearest_of};
 
 use coords::Point;
-use geometry::Projection;
+use geometry::{Polyline, Projection};
 use grid::{Aabb, Cell, Grid, Ring, Run};
 
 // Segments of a lane's centerline per indexed span.
@@ -65,28 +65,16 @@ fn around(line: &[f32], first: usize, end: usize) -> Aabb
     b
 }
 
-// Writes the row of span k.
-fn write_span(spans: &mut [usize], k: usize, row: usize, first: usize, end: usize)
-    requires { 3 * k + 2 < length spans.old }
-    ensures { spans.new ≡ sets spans.old (3 * k) (row ∷ first ∷ end ∷ []) }
+// Writes a row from the entry `start` on.
+fn put_row<T: Copy>(row: &[T], out: &mut [T], start: usize)
+    requires { start + length row.now ≤ length out.old }
+    ensures { out.new ≡ sets out.old start row.now }
 {
-    let at = 3 * k;
-    spans[at] = row;
-    spans[at + 1] = first;
-    spans[at + 2] = end;
+    out[start..start + row.len()].copy_from_slice(row);
 }
 
-// Writes the row of box k.
-fn write_box(boxes: &mut [f32], k: usize, b: Aabb)
-    requires { 4 * k + 3 < length boxes.old }
-    ensures { boxes.new ≡ sets boxes.old (4 * k) (box_row b) }
-{
-    let at = 4 * k;
-    boxes[at] = b.min_x;
-    boxes[at + 1] = b.max_x;
-    boxes[at + 2] = b.min_y;
-    boxes[at + 3] = b.max_y;
-}
+// The facts `Rows` and `Room` stand in each contract up to `driving`: `Room` is of lent `&mut` slices, and a struct of those would owe a clause for
+// each that it is still the slice that was lent.
 
 // Writes the spans of the lane in a row, if it drives, from span k on; the number of the next span.
 fn add_lane(
@@ -112,14 +100,15 @@ fn add_lane(
     let a = 3 * from;
     let e = 3 * (from + count);
     let line = &points[a..e];
-    let mut at = k;
-    for first in (0..count - 1).step_by(SPAN_SEGMENTS) {
+    let n = (count - 1).div_ceil(SPAN_SEGMENTS);
+    for j in 0..n {
+        let first = SPAN_SEGMENTS * j;
         let end = (first + SPAN_SEGMENTS).min(count - 1);
-        write_span(spans, at, row, first, end);
-        write_box(boxes, at, around(line, first, end).padded(0.0));
-        at += 1;
+        put_row(&[row, first, end], spans, 3 * (k + j));
+        let b = around(line, first, end).padded(0.0);
+        put_row(&[b.min_x, b.max_x, b.min_y, b.max_y], boxes, 4 * (k + j));
     }
-    at
+    k + n
 }
 
 // Writes the spans of the lanes that drive, of n lanes in all; how many there are.
@@ -169,25 +158,20 @@ fn extent(boxes: &[f32], n: usize) -> Aabb
     b
 }
 
-// Writes the ranges of box k.
-fn write_range(ranges: &mut [usize], k: usize, g: Grid, b: Aabb)
-    requires { (4 * k + 3 < length ranges.old) × (0 < g.cols) × (0 < g.rows) }
-    ensures { ranges.new ≡ sets ranges.old (4 * k) (range_row g b) }
-{
-    let at = 4 * k;
-    ranges[at] = g.col(b.min_x);
-    ranges[at + 1] = g.col(b.max_x);
-    ranges[at + 2] = g.row(b.min_y);
-    ranges[at + 3] = g.row(b.max_y);
-}
-
 // Writes the columns and rows of the first n boxes.
 fn write_ranges(boxes: &[f32], n: usize, g: Grid, ranges: &mut [usize])
     requires { (4 * n ≤ length boxes.now) × (4 * n ≤ length ranges.old) × (0 < g.cols) × (0 < g.rows) }
     ensures { ranges.new ≡ over (rows (range_row g) (box_list boxes.now n 0)) ranges.old }
 {
     for i in 0..n {
-        write_range(ranges, i, g, box_at(boxes, i));
+        let b = box_at(boxes, i);
+        let row = [
+            g.col(b.min_x),
+            g.col(b.max_x),
+            g.row(b.min_y),
+            g.row(b.max_y),
+        ];
+        put_row(&row, ranges, 4 * i);
     }
 }
 
@@ -327,8 +311,11 @@ impl<'a> Spans<'a> {
     {
         let from = self.lanes[6 * row + 4];
         let to = from + self.lanes[6 * row + 5];
-        let line = &self.points[3 * from..3 * to];
-        geometry::project_segments(line, &self.cumulative[from..to], p, first, end)
+        let line = Polyline {
+            points: &self.points[3 * from..3 * to],
+            cumulative: &self.cumulative[from..to],
+        };
+        line.project_segments(p, first, end)
     }
 
     // Span i against the best so far. A span whose box already loses is not measured.
@@ -349,22 +336,17 @@ impl<'a> Spans<'a> {
         measure(d2, i, row, projection, best)
     }
 
-    // Whether the columns and rows of span i hold a cell.
+    // Whether the columns and rows of span i hold a cell. The rows come first, since spans that follow one another mostly agree on them.
+    #[tactic(auto, unfolding(crate::specs::Tables::within))]
     fn holds(&self, i: usize, cell: Cell) -> bool
         requires { i < self.now.index.count }
         ensures { result ≡ within self.now.ranges.now i cell.ix cell.iy }
     {
         let at = 4 * i;
-        if cell.ix < self.ranges[at] {
-            return false;
-        }
-        if self.ranges[at + 1] < cell.ix {
-            return false;
-        }
-        if cell.iy < self.ranges[at + 2] {
-            return false;
-        }
-        cell.iy <= self.ranges[at + 3]
+        self.ranges[at + 2] <= cell.iy
+            && cell.iy <= self.ranges[at + 3]
+            && self.ranges[at] <= cell.ix
+            && cell.ix <= self.ranges[at + 1]
     }
 
     // Span i against the best so far, if the cell's list has it.

@@ -40,7 +40,7 @@ loop-i-preserved c =
     let a = c.args in
     let less : a.n - (l.i + 1) ≡ a.n - l.i - 1 = omega arith in
     rw less
-    (next_row a.boxes.now a.g a.ranges.now _ (a.n - l.i) l.i l.ranges _ _ (omega arith) c.box_at.ensures c.write_range.ensures
+    (next_row a.boxes.now a.g a.ranges.now _ (a.n - l.i) l.i l.ranges _ _ (omega arith) c.box_at-b.ensures (cc)
     (omega arith) l.invariant)
 
 pub returns : goal.returns
