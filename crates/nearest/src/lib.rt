@@ -43,21 +43,14 @@ impl From<Result<NearestLane, Refusal>> for NearestAnswer {
             Err(refusal) => NearestAnswer {
                 number: refusal.number(),
                 lane: LaneId(0),
-                projection: Projection {
-                    s: 0.0,
-                    point: Point {
-                        x: 0.0,
-                        y: 0.0,
-                        z: 0.0,
-                    },
-                    offset: 0.0,
-                },
+                projection: Projection::default(),
             },
         }
     }
 }
 
-// The lanes of a plan: a row for each, and the place and the arc length of each point.
+// The lanes of a plan: a row for each, and the place and the arc length of each point. Not the struct of `pose` or of `branches`: those ask that
+// arc lengths rise, this one that they are the sums of the segments and that the spans are few, so that one for all would ask more of each caller.
 #[derive(Clone, Copy)]
 pub struct Lanes<'a> {
     pub rows: &'a [usize],
@@ -73,6 +66,7 @@ impl<'a> Lanes<'a> {
         ensures { result ≡ map (λ (p : Point). told (nearest_lane drives_table
             (lanes_from self.now.rows.now self.now.points.now self.now.count 0) p)) ps.entry }
     {
+        // As long as the largest index, of 1,152 spans: no heap, by a rule of the project.
         let mut spans = [0usize; 3456];
         let mut boxes = [0.0f32; 4608];
         let mut ranges = [0usize; 4608];
@@ -93,6 +87,7 @@ impl<'a> Lanes<'a> {
             ranges: &ranges,
             index,
         };
+        // A counted loop: `ps.map(..)` was tried, and the proof that each answer is of these spans did not close.
         let mut found = [None; N];
         for i in 0..N {
             found[i] = spans.nearest_lane(ps[i]);
@@ -108,12 +103,10 @@ impl<'a> Lanes<'a> {
             return Err(Refusal::NotAPoint);
         }
         let [best] = self.nearest_rows([p]);
-        match best {
-            None => Err(Refusal::NoneDrives),
-            Some(b) => Ok(NearestLane {
-                lane: LaneId(self.rows[6 * b.row]),
-                projection: b.projection,
-            }),
-        }
+        let b = best.ok_or(Refusal::NoneDrives)?;
+        Ok(NearestLane {
+            lane: LaneId(self.rows[6 * b.row]),
+            projection: b.projection,
+        })
     }
 }
