@@ -20,6 +20,7 @@ ghost use Rattle.network.specs.Nearest.{offered, offered_in, visit_cell, visit_r
 use coords::Point;
 use geometry::{Polyline, Projection};
 use grid::{Aabb, Cell, Grid, Ring, Run};
+use lists::put_row;
 
 // Segments of a lane's centerline per indexed span.
 const SPAN_SEGMENTS: usize = 4;
@@ -63,14 +64,6 @@ fn around(line: &[f32], first: usize, end: usize) -> Aabb
         b = b.grown(p.x, p.y);
     }
     b
-}
-
-// Writes a row from the entry `start` on.
-fn put_row<T: Copy>(row: &[T], out: &mut [T], start: usize)
-    requires { start + length row.now ≤ length out.old }
-    ensures { out.new ≡ sets out.old start row.now }
-{
-    out[start..start + row.len()].copy_from_slice(row);
 }
 
 // The facts `Rows` and `Room` stand in each contract up to `driving`: `Room` is of lent `&mut` slices, and a struct of those would owe a clause for

@@ -14,8 +14,8 @@ ghost use Rattle.plan_links.specs.Chains.{Chained, Keyed, chained_prop, heads};
 ghost use Rattle.plan_links.specs.Linked.{Linkable};
 
 use fields::{u8_at, u16_at};
+use lists::put_row;
 use plan_format::Role;
-use plan_rows::put_row;
 use plan_whole::{index_numbers, lane_row};
 
 // The links of a file as chains: for each lane and role the first link, and for each link the next of its lane and role.

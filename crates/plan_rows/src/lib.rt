@@ -17,15 +17,8 @@ ghost use Rattle.plan_whole.specs.Keys.{Listed};
 ghost use Rattle.plan_whole.specs.Missing.{Searching};
 
 use fields::{f32_at, f64_at, u8_at, u16_at};
+use lists::put_row;
 use plan_whole::{Key, find, keys, lane_row, pair, raised};
-
-// Writes a row from the entry `start` on.
-pub fn put_row(row: &[usize], out: &mut [usize], start: usize)
-    requires { start + length row.now ≤ length out.old }
-    ensures { out.new ≡ sets out.old start row.now }
-{
-    out[start..start + row.len()].copy_from_slice(row);
-}
 
 // Writes the values that `read` gives of the record at `at`.
 fn put_values<T: Copy, R: Fn(usize, usize) -> T>(at: usize, read: &R, out: &mut [T])

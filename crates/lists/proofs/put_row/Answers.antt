@@ -2,7 +2,7 @@
 use Rattle.std.proofs.Common.{◌≡◌, ◌+◌, ◌-◌, ◌≤◌, length, take, drop, arith, append_assoc}
 use Rattle.std.proofs.lemmas.List.{drop-drop}
 use Rattle.std.proofs.lemmas.List.Edits.{sets-eq}
-use Rattle.network.proofs.put_row.Goals as goal
+use Rattle.lists.proofs.put_row.Goals as goal
 
 pub returns : goal.returns
 returns g c =
