@@ -6,8 +6,7 @@ ghost use Rattle.geometry.specs.Locate.{pose_along};
 ghost use Rattle.rows.specs.Rows.{arcs_of, points_of, tangents_of};
 ghost use Rattle.pose.specs.Lanes.{posed_by, pose_row, Polyline, Polylines};
 
-use coords::{Point, Vector};
-use geometry::{Pose, pose_at};
+use geometry::{Polyline, Pose};
 use plan_find::find_lane;
 use plan_format::{LaneId, Refusal};
 
@@ -27,24 +26,14 @@ impl From<Result<Pose, Refusal>> for Posed {
             Ok(pose) => Posed { number: 0, pose },
             Err(refusal) => Posed {
                 number: refusal.number(),
-                pose: Pose {
-                    position: Point {
-                        x: 0.0,
-                        y: 0.0,
-                        z: 0.0,
-                    },
-                    heading: Vector {
-                        x: 0.0,
-                        y: 0.0,
-                        z: 0.0,
-                    },
-                },
+                pose: Pose::default(),
             },
         }
     }
 }
 
 // The lanes of a plan with their polylines: a row for each lane, and for each point its place, its arc length and its tangent.
+// Not the struct of `nearest` or of `branches`: neither is lent tangents, so that one for all would ask more of their callers.
 #[derive(Clone, Copy)]
 pub struct Lanes<'a> {
     pub count: usize,
@@ -64,10 +53,11 @@ impl<'a> Lanes<'a> {
     {
         let first = self.rows[6 * i + 4];
         let end = first + self.rows[6 * i + 5];
-        let ps = &self.points[3 * first..3 * end];
-        let cs = &self.cumulative[first..end];
-        let ts = &self.tangents[3 * first..3 * end];
-        pose_at(ps, cs, ts, s)
+        let line = Polyline {
+            points: &self.points[3 * first..3 * end],
+            cumulative: &self.cumulative[first..end],
+        };
+        line.pose_at(&self.tangents[3 * first..3 * end], s)
     }
 
     // The pose on a lane at the arc length s, which is clamped to the lane; 12 for a lane that is not among the rows. A NaN s is not clamped:
@@ -76,9 +66,7 @@ impl<'a> Lanes<'a> {
         ensures { posed_by result ≡ pose_row lane.0 s self.now.count self.now.rows.now self.now.points.now self.now.cumulative.now
             self.now.tangents.now }
     {
-        match find_lane(lane, self.rows, self.count) {
-            None => Err(Refusal::NotOnALane),
-            Some(i) => Ok(self.pose_on(i, s)),
-        }
+        let i = find_lane(lane, self.rows, self.count).ok_or(Refusal::NotOnALane)?;
+        Ok(self.pose_on(i, s))
     }
 }
