@@ -1,7 +1,7 @@
--- Rows one after the other in one list: how an entry of them is read, and how one is written.
+-- Rows one after the other in one list: how an entry of them is read.
 use mathlib.Core.List.{List, [], append_assoc, ◌++◌, ◌∷◌}
 use Rattle.std.proofs.Math.Path.{ap, refl, sym}
-use Rattle.std.proofs.Common.{◌∙◌, le_of_suc-le-suc, not-suc-le-zero, add-one, get_or-append-add}
+use Rattle.std.proofs.Common.{◌∙◌, le_of_suc-le-suc, not-suc-le-zero, get_or-append-add}
 use Rattle.std.specs.Prelude.{◌≡◌, drop, get_or, set, take}
 use Prim.Native.Nat.{suc, zero, ℕ, ◌*◌, ◌+◌, ◌<◌}
 use native.Mathlib.Omega.{arith}
@@ -55,16 +55,3 @@ module _ {X A : Type 0} (row : X → List A) where
       rw z
       (get_or-append-add (row x) (rows row xs) (w * i + k) d
       ∙ row_entry w xs e (λ j m. s (suc j) (omega arith)) i k d (le_of_suc-le-suc h) l)
-
--- a row written entry by entry
-module _ {A : Type 0} (out : List A) (k : ℕ) (a b c : A) where
-  pub sets_three : set (set (set out k a) (k + 1) b) (k + 2) c ≡ sets out k (a ∷ b ∷ c ∷ [])
-  sets_three =
-      let two : k + 2 ≡ suc (suc k) = omega arith in
-      rw (add-one, two)
-
-  pub sets_four : (d : A) → set (set (set (set out k a) (k + 1) b) (k + 2) c) (k + 3) d ≡ sets out k (a ∷ b ∷ c ∷ d ∷ [])
-  sets_four d =
-      let two : k + 2 ≡ suc (suc k) = omega arith in
-      let three : k + 3 ≡ suc (suc (suc k)) = omega arith in
-      rw (add-one, two, three)

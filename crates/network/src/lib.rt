@@ -66,8 +66,8 @@ fn around(line: &[f32], first: usize, end: usize) -> Aabb
     b
 }
 
-// The facts `Rows` and `Room` stand in each contract up to `driving`: `Room` is of lent `&mut` slices, and a struct of those would owe a clause for
-// each that it is still the slice that was lent.
+// `Room` stands in each contract up to `driving`: it is of lent `&mut` slices, and a struct of those would owe a clause for each that it is still the
+// slice that was lent. `Rows` stands in three: it is of two slices that C lends one by one, and each function hands them on.
 
 // Writes the spans of the lane in a row, if it drives, from span k on; the number of the next span.
 fn add_lane(
