@@ -2,12 +2,11 @@
 use mathlib.Core.List.{List, [], append_assoc, ◌++◌, ◌∷◌}
 use Rattle.std.proofs.Math.Path.{ap, refl, sym}
 use Rattle.std.proofs.Common.{◌∙◌, le_of_suc-le-suc, not-suc-le-zero, get_or-append-add}
-use Rattle.std.specs.Prelude.{◌≡◌, drop, get_or, set, take}
+use Rattle.std.specs.Prelude.{◌≡◌, drop, get_or, take}
 use Prim.Native.Nat.{suc, zero, ℕ, ◌*◌, ◌+◌, ◌<◌}
 use native.Mathlib.Omega.{arith}
 use Rattle.std.proofs.Math.ListN.{get_or-append, length, length-append}
 use Rattle.std.proofs.Math.Seq.{drop-append-add}
-use Rattle.std.proofs.lemmas.List.Edits.{sets}
 
 -- a row for each element, one after the other
 unfoldable pub rows : {X A : Type 0} → (X → List A) → List X → List A
