@@ -33,7 +33,8 @@ impl From<Result<Pose, Refusal>> for Posed {
 }
 
 // The lanes of a plan with their polylines: a row for each lane, and for each point its place, its arc length and its tangent.
-// Not the struct of `nearest` or of `branches`: neither is lent tangents, so that one for all would ask more of their callers.
+// Not the struct of `nearest` or of `branches`: neither is lent tangents. One of theirs within this one would have to stand in a crate below, apart
+// from the methods that `branches` has for it.
 #[derive(Clone, Copy)]
 pub struct Lanes<'a> {
     pub count: usize,
