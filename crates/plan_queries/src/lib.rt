@@ -2,34 +2,21 @@
 #![tactic(auto)]
 
 ghost use Rattle.std.specs.Prelude.{◌≡◌, false, true, ◌+◌, ◌≤◌, length, MatchOption};
-ghost use Rattle.fields.specs.Fields.{u16_at, u32_at};
+ghost use Rattle.fields.specs.Fields.{u16_at};
 ghost use Rattle.plan_format.specs.Kinds.{kind_number};
 ghost use Rattle.plan_format.specs.Plan.{fits};
-ghost use Rattle.plan_format.specs.Queries.{is_query, whole, next_query};
+ghost use Rattle.plan_format.specs.Queries.{is_query, next_query};
 ghost use Rattle.plan_format.specs.Records.{advance_at, beside_at, query_at, route_at};
 
-use fields::{f32_at, f64_at, u8_at, u16_at, u32_at};
+use fields::{f32_at, f64_at, u8_at, u16_at};
 use plan_format::{Kind, LaneId, Query};
-use plan_scan::size_fits;
+use plan_scan::WholeRecord;
 
 // The kind with this number, where it is a query's.
 fn query_kind(number: usize) -> Option<Kind>
     ensures { MatchOption result (is_query number ≡ false) (λ kind. (kind_number kind ≡ number) × (is_query number ≡ true)) }
 {
     Kind::try_from(number).ok().filter(|kind| kind.is_query())
-}
-
-// How long the payload of the record at `at` is, where a whole record starts there.
-fn size_at(file: &[u8], at: usize) -> Option<usize>
-    ensures { MatchOption result (whole file.now at ≡ false)
-        (λ size. (size ≡ u32_at file.now at) × (whole file.now at ≡ true) × (at + 6 + size ≤ length file.now)) }
-{
-    let room = file.len().checked_sub(6)?.checked_sub(at)?;
-    let size = u32_at(file, at);
-    if room < size {
-        return None;
-    }
-    Some(size)
 }
 
 fn route_at(file: &[u8], at: usize) -> Query
@@ -70,32 +57,32 @@ fn beside_at(file: &[u8], at: usize) -> Query
 }
 
 // The query of a record whose length fits.
-fn query_at(file: &[u8], at: usize, kind: Kind, size: usize) -> Query
-    requires { (at + 6 + size ≤ length file.now)
-        × (kind_number kind ≡ u16_at file.now (at + 4))
-        × (fits file.now at (kind_number kind) size ≡ true)
+#[tactic(auto, unfolding(plan_format::specs::Records::query_at, plan_format::specs::Plan::fits))]
+fn query_at(found: &WholeRecord, kind: Kind) -> Query
+    requires { (kind_number kind ≡ u16_at found.now.file.now (found.now.at + 4))
+        × (fits found.now.file.now found.now.at (kind_number kind) found.now.size ≡ true)
         × (is_query (kind_number kind) ≡ true) }
-    ensures { result ≡ query_at file.now at }
+    ensures { result ≡ query_at found.now.file.now found.now.at }
 {
     match kind {
-        Kind::Route => route_at(file, at),
-        Kind::Advance => advance_at(file, at),
-        _ => beside_at(file, at),
+        Kind::Route => route_at(found.file, found.at),
+        Kind::Advance => advance_at(found.file, found.at),
+        _ => beside_at(found.file, found.at),
     }
 }
 
 // The first query from `first` on, with the place after it; of any bytes, the walk ends where no whole record follows.
+#[tactic(auto, using(crate::specs::Seeking::seek_start, crate::specs::Seeking::seek_next))]
 pub fn next_query(file: &[u8], first: usize) -> Option<(Query, usize)>
     ensures { result ≡ next_query file.now first }
 {
     // each record says how long it is: no range has these steps
     let mut at = first;
-    while let Some(size) = size_at(file, at) {
-        let next = at + 6 + size;
+    while let Some(found) = WholeRecord::read(file, at) {
         match query_kind(u16_at(file, at + 4)) {
-            None => at = next,
-            Some(kind) if size_fits(file, at, kind, size) => {
-                return Some((query_at(file, at, kind, size), next));
+            None => at = found.next(),
+            Some(kind) if found.fits(kind) => {
+                return Some((query_at(&found, kind), found.next()));
             }
             Some(_) => return None,
         }

@@ -267,24 +267,6 @@ passed s at c e =
     go false false true true true e₂ e₃ e₄ e₅ h =
         record { ok = record { room = ltb-false (length s) (at + 6 + u32_at s at) e₂; fit = e₃; range = e₄ }; limit = e₅ }
 
--- THE NUMBER of a record, by what was read of it
-module _ (s : List ℕ) (at : ℕ) (c : Counts) where
-  pub number_headless : length s < at + 6 → record_number s at c ≡ 3
-  unfolding record_number
-  number_headless h = simp (lt-ltb (length s) (at + 6) h)
-
-  pub number_cut : at + 6 ≤ length s → length s < at + 6 + u32_at s at → record_number s at c ≡ 3
-  unfolding record_number
-  number_cut h l = simp (le-ltb (length s) (at + 6) h, lt-ltb (length s) (at + 6 + u32_at s at) l)
-
-  pub number_read : (kind size n : ℕ) → kind ≡ u16_at s (at + 4) → size ≡ u32_at s at → n ≡ items_at s at kind → at + 6 + size ≤ length s
-      → record_number s at c ≡ cond (fits s at kind size) (cond (in_range s at kind) (cond (within kind n c) 0 6) 5) 4
-  unfolding record_number
-  number_read kind size n ek es en h =
-      let a : at + 6 ≤ length s = omega arith in
-      let b : at + 6 + u32_at s at ≤ length s = omega (arith, es) in
-      rw (en, ek, es) (simp (le-ltb (length s) (at + 6) a, le-ltb (length s) (at + 6 + u32_at s at) b))
-
 -- THE LOOP: what is left of the walk, after the records of a, gives what the whole gives
 pub record Walking (s : List ℕ) (at : ℕ) (a : Starts) : Type 0 where
   pub inside : at ≤ length s

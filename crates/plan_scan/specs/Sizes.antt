@@ -21,15 +21,3 @@ module _ (s : List ℕ) (at kind size : ℕ) (f : fits s at kind size ≡ true) 
   pub place_size : kind ≡ 4 → size ≡ 10
   unfolding fits
   place_size e = eqb-true size 10 (rw e at f)
-
-  pub route_size : kind ≡ 16 → size ≡ 24
-  unfolding fits
-  route_size e = eqb-true size 24 (rw e at f)
-
-  pub advance_size : kind ≡ 17 → size ≡ 26
-  unfolding fits
-  advance_size e = eqb-true size 26 (rw e at f)
-
-  pub beside_size : kind ≡ 18 → size ≡ 11
-  unfolding fits
-  beside_size e = eqb-true size 11 (rw e at f)

@@ -1,12 +1,13 @@
 // The records of a plan file one by one: numbers 3 to 6, the counts, and where each record starts.
 #![tactic(auto)]
 
-ghost use Rattle.std.specs.Prelude.{◌≡◌, true, ◌&&◌, ◌+◌, ◌*◌, ◌≤◌, ◌<◌, length, IfOk};
-ghost use Rattle.fields.specs.Fields.{u16_at};
+ghost use Rattle.std.specs.Prelude.{◌≡◌, false, true, ◌&&◌, ◌+◌, ◌*◌, ◌≤◌, ◌<◌, length, IfOk, MatchOption};
+ghost use Rattle.fields.specs.Fields.{u16_at, u32_at};
 ghost use Rattle.plan_format.specs.Kinds.{kind_number};
 ghost use Rattle.plan_format.specs.Records.{floats, doubles, lane_at, section_at};
 ghost use Rattle.plan_format.specs.Plan.{coordinate, station, every, rises_from, rises, lane_fits, section_fits, fits, lane_range};
 ghost use Rattle.plan_format.specs.Plan.{section_range, in_range, items_at, record_number, walked};
+ghost use Rattle.plan_format.specs.Queries.{whole};
 ghost use Rattle.plan_format.specs.Refusals.{found_number, read_by};
 ghost use Rattle.plan_scan.specs.Scan.{Reads, Scanned, counts_in};
 
@@ -34,15 +35,15 @@ fn is_station(x: f64) -> bool
 
 // Whether the n floats from `first` on are coordinates.
 fn are_coordinates(file: &[u8], first: usize, n: usize) -> bool
-    requires { (first + 4 * n ≤ length file.now) × (n < 1000000) }
+    requires { first + 4 * n ≤ length file.now }
     ensures { result ≡ every coordinate (floats file.now first n) }
 {
     (0..n).all(|k| is_coordinate(f32_at(file, first + 4 * k)))
 }
 
-// Whether the n floats from `first` on are stations, and rise from `below` on.
+// Whether the n floats from `first` on are stations, and rise from `below` on. The last is kept by hand, so that each is read once.
 fn are_rising(file: &[u8], first: usize, below: f64, n: usize) -> bool
-    requires { (first + 8 * n ≤ length file.now) × (n < 1000000) }
+    requires { first + 8 * n ≤ length file.now }
     ensures { result ≡ (every station (doubles file.now first n) && rises_from below (doubles file.now first n)) }
 {
     let mut last = below;
@@ -61,7 +62,7 @@ fn are_rising(file: &[u8], first: usize, below: f64, n: usize) -> bool
 
 // Whether the n floats from `first` on are stations, and rise.
 fn are_stations(file: &[u8], first: usize, n: usize) -> bool
-    requires { (first + 8 * n ≤ length file.now) × (n < 1000000) }
+    requires { first + 8 * n ≤ length file.now }
     ensures { result ≡ (every station (doubles file.now first n) && rises (doubles file.now first n)) }
 {
     if n == 0 {
@@ -71,125 +72,161 @@ fn are_stations(file: &[u8], first: usize, n: usize) -> bool
     is_station(x) && are_rising(file, first + 8, x, n - 1)
 }
 
-// Number 4 for a lane: its count and its ends say how long it is.
-#[tactic(auto, unfolding(plan_format::specs::Plan::lane_fits))]
-fn lane_fits(file: &[u8], at: usize, size: usize) -> bool
-    requires { at + 6 + size ≤ length file.now }
-    ensures { result ≡ lane_fits file.now at size }
-{
-    if size < 7 {
-        return false;
+// A whole record: its head and its payload lie within the file.
+#[derive(Clone, Copy)]
+pub struct WholeRecord<'a> {
+    pub file: &'a [u8],
+    // where it starts
+    pub at: usize,
+    // the length of its payload
+    pub size: usize,
+    pub ghost within: { at + 6 + size ≤ length file.now },
+}
+
+impl<'a> WholeRecord<'a> {
+    // The record at `at`, where a whole one starts there.
+    #[tactic(auto, unfolding(plan_format::specs::Queries::whole))]
+    pub fn read(file: &'a [u8], at: usize) -> Option<WholeRecord<'a>>
+        ensures { MatchOption result (whole file.now at ≡ false)
+            (λ found. (found.file.now ≡ file.now) × (found.at ≡ at) × (found.size ≡ u32_at file.now at) × (whole file.now at ≡ true)) }
+    {
+        let room = file.len().checked_sub(6)?.checked_sub(at)?;
+        let size = u32_at(file, at);
+        if room < size {
+            return None;
+        }
+        Some(WholeRecord { file, at, size })
     }
-    let tangents = if u8_at(file, at + 10) == 0 { 0 } else { 24 };
-    size == 7 + 12 * u16_at(file, at + 11) + tangents
-}
 
-#[tactic(auto, unfolding(plan_format::specs::Plan::section_fits))]
-fn section_fits(file: &[u8], at: usize, size: usize) -> bool
-    requires { at + 6 + size ≤ length file.now }
-    ensures { result ≡ section_fits file.now at size }
-{
-    22 <= size && size == 22 + 8 * u16_at(file, at + 26)
-}
-
-// Number 4: whether a payload's length fits its kind.
-#[tactic(auto, unfolding(plan_format::specs::Plan::fits))]
-pub fn size_fits(file: &[u8], at: usize, kind: Kind, size: usize) -> bool
-    requires { at + 6 + size ≤ length file.now }
-    ensures { result ≡ fits file.now at (kind_number kind) size }
-{
-    match kind {
-        Kind::Lane => lane_fits(file, at, size),
-        Kind::Link => size == 5,
-        Kind::Section => section_fits(file, at, size),
-        Kind::Place => size == 10,
-        Kind::Route => size == 24,
-        Kind::Advance => size == 26,
-        Kind::Beside => size == 11,
+    // Where the next starts.
+    pub fn next(&self) -> usize
+        ensures { result ≡ self.now.at + 6 + self.now.size }
+    {
+        self.at + 6 + self.size
     }
-}
 
-// Number 5 for a lane.
-#[tactic(auto, unfolding(plan_format::specs::Plan::lane_range))]
-fn lane_in_range(file: &[u8], at: usize) -> bool
-    requires { at + 13 + 12 * u16_at file.now (at + 11) ≤ length file.now }
-    ensures { result ≡ lane_range (lane_at file.now at) }
-{
-    let n = u16_at(file, at + 11);
-    u8_at(file, at + 8) <= 27
-        && u8_at(file, at + 9) <= 2
-        && u8_at(file, at + 10) <= 1
-        && 2 <= n
-        && are_coordinates(file, at + 13, 3 * n)
-}
-
-// Number 5 for a section.
-#[tactic(auto, unfolding(plan_format::specs::Plan::section_range))]
-fn section_in_range(file: &[u8], at: usize) -> bool
-    requires { at + 28 + 8 * u16_at file.now (at + 26) ≤ length file.now }
-    ensures { result ≡ section_range (section_at file.now at) }
-{
-    let start = f64_at(file, at + 10);
-    let end = f64_at(file, at + 18);
-    let n = u16_at(file, at + 26);
-    is_station(start) && is_station(end) && start <= end && 2 <= n && are_stations(file, at + 28, n)
-}
-
-// Number 5: whether the fields of a record whose length fits are in their ranges.
-#[tactic(auto, unfolding(plan_format::specs::Plan::in_range))]
-fn fields_in_range(file: &[u8], at: usize, kind: Kind, size: usize) -> bool
-    requires { (at + 6 + size ≤ length file.now) × (fits file.now at (kind_number kind) size ≡ true) }
-    ensures { result ≡ in_range file.now at (kind_number kind) }
-{
-    match kind {
-        Kind::Lane => lane_in_range(file, at),
-        Kind::Link => Role::try_from(u8_at(file, at + 8)).is_ok(),
-        Kind::Section => section_in_range(file, at),
-        Kind::Beside => u8_at(file, at + 16) <= 1,
-        Kind::Place | Kind::Route | Kind::Advance => true,
+    // Number 4 for a lane: its count and its ends say how long it is.
+    #[tactic(auto, unfolding(plan_format::specs::Plan::lane_fits))]
+    fn lane_fits(&self) -> bool
+        ensures { result ≡ lane_fits self.now.file.now self.now.at self.now.size }
+    {
+        if self.size < 7 {
+            return false;
+        }
+        let tangents = if u8_at(self.file, self.at + 10) == 0 {
+            0
+        } else {
+            24
+        };
+        self.size == 7 + 12 * u16_at(self.file, self.at + 11) + tangents
     }
-}
 
-// The points of a lane or the stations of a section.
-fn items_at(file: &[u8], at: usize, kind: Kind, size: usize) -> usize
-    requires { (at + 6 + size ≤ length file.now) × (fits file.now at (kind_number kind) size ≡ true) }
-    ensures { (result ≡ items_at file.now at (kind_number kind)) × (result < 65536) }
-{
-    match kind {
-        Kind::Lane => u16_at(file, at + 11),
-        Kind::Section => u16_at(file, at + 26),
-        _ => 0,
+    #[tactic(auto, unfolding(plan_format::specs::Plan::section_fits))]
+    fn section_fits(&self) -> bool
+        ensures { result ≡ section_fits self.now.file.now self.now.at self.now.size }
+    {
+        22 <= self.size && self.size == 22 + 8 * u16_at(self.file, self.at + 26)
+    }
+
+    // Number 4: whether the payload's length fits this kind.
+    #[tactic(auto, unfolding(plan_format::specs::Plan::fits))]
+    pub fn fits(&self, kind: Kind) -> bool
+        ensures { result ≡ fits self.now.file.now self.now.at (kind_number kind) self.now.size }
+    {
+        match kind {
+            Kind::Lane => self.lane_fits(),
+            Kind::Link => self.size == 5,
+            Kind::Section => self.section_fits(),
+            Kind::Place => self.size == 10,
+            Kind::Route => self.size == 24,
+            Kind::Advance => self.size == 26,
+            Kind::Beside => self.size == 11,
+        }
+    }
+
+    // Number 5 for a lane, where the length fits.
+    #[tactic(auto, unfolding(plan_format::specs::Plan::lane_range), using(crate::specs::Sizes::lane_size))]
+    fn lane_in_range(&self) -> bool
+        requires { fits self.now.file.now self.now.at 1 self.now.size ≡ true }
+        ensures { result ≡ lane_range (lane_at self.now.file.now self.now.at) }
+    {
+        let n = u16_at(self.file, self.at + 11);
+        u8_at(self.file, self.at + 8) <= 27
+            && u8_at(self.file, self.at + 9) <= 2
+            && u8_at(self.file, self.at + 10) <= 1
+            && 2 <= n
+            && are_coordinates(self.file, self.at + 13, 3 * n)
+    }
+
+    // Number 5 for a section, where the length fits.
+    #[tactic(auto, unfolding(plan_format::specs::Plan::section_range), using(crate::specs::Sizes::section_size))]
+    fn section_in_range(&self) -> bool
+        requires { fits self.now.file.now self.now.at 3 self.now.size ≡ true }
+        ensures { result ≡ section_range (section_at self.now.file.now self.now.at) }
+    {
+        let start = f64_at(self.file, self.at + 10);
+        let end = f64_at(self.file, self.at + 18);
+        let n = u16_at(self.file, self.at + 26);
+        is_station(start)
+            && is_station(end)
+            && start <= end
+            && 2 <= n
+            && are_stations(self.file, self.at + 28, n)
+    }
+
+    // Number 5: whether the fields are in their ranges, where the length fits.
+    #[tactic(auto, unfolding(plan_format::specs::Plan::in_range, plan_format::specs::Plan::fits))]
+    fn in_range(&self, kind: Kind) -> bool
+        requires { fits self.now.file.now self.now.at (kind_number kind) self.now.size ≡ true }
+        ensures { result ≡ in_range self.now.file.now self.now.at (kind_number kind) }
+    {
+        match kind {
+            Kind::Lane => self.lane_in_range(),
+            Kind::Link => Role::try_from(u8_at(self.file, self.at + 8)).is_ok(),
+            Kind::Section => self.section_in_range(),
+            Kind::Beside => u8_at(self.file, self.at + 16) <= 1,
+            Kind::Place | Kind::Route | Kind::Advance => true,
+        }
+    }
+
+    // The points of a lane or the stations of a section, where the length fits.
+    #[tactic(auto, using(crate::specs::Sizes::lane_size, crate::specs::Sizes::section_size))]
+    fn items(&self, kind: Kind) -> usize
+        requires { fits self.now.file.now self.now.at (kind_number kind) self.now.size ≡ true }
+        ensures { (result ≡ items_at self.now.file.now self.now.at (kind_number kind)) × (result < 65536) }
+    {
+        match kind {
+            Kind::Lane => u16_at(self.file, self.at + 11),
+            Kind::Section => u16_at(self.file, self.at + 26),
+            _ => 0,
+        }
     }
 }
 
 // The record at `at`, after those of `starts`: numbers 3 to 6.
+#[tactic(auto, unfolding(plan_format::specs::Plan::record_number, plan_format::specs::Queries::whole), using(plan_format::specs::Kinds::kind_known))]
 fn record_at(file: &[u8], at: usize, starts: &RecordStarts) -> Result<Record, Refusal>
-    requires { (at ≤ length file.now) × (length file.now ≤ 65536) }
     ensures number { found_number result ≡ record_number file.now at (counts_in starts.now) }
     ensures read { IfOk result (Reads file.now at) }
 {
-    if file.len() - at < 6 {
+    let Some(found) = WholeRecord::read(file, at) else {
         return Err(Refusal::CutRecord);
-    }
-    let size = u32_at(file, at);
-    if file.len() - at - 6 < size {
-        return Err(Refusal::CutRecord);
-    }
+    };
     let kind = Kind::try_from(u16_at(file, at + 4))?;
-    if !size_fits(file, at, kind, size) {
+    if !found.fits(kind) {
         return Err(Refusal::WrongRecord);
     }
-    if !fields_in_range(file, at, kind, size) {
+    if !found.in_range(kind) {
         return Err(Refusal::OutOfRange);
     }
-    let items = items_at(file, at, kind, size);
+    let items = found.items(kind);
     if !starts.keeps_within(kind, items) {
         return Err(Refusal::PastLimit);
     }
     Ok(Record {
         kind,
         items,
-        next: at + 6 + size,
+        next: found.next(),
     })
 }
 
