@@ -209,9 +209,7 @@ fn record_at(file: &[u8], at: usize, starts: &RecordStarts) -> Result<Record, Re
     ensures number { found_number result ≡ record_number file.now at (counts_in starts.now) }
     ensures read { IfOk result (Reads file.now at) }
 {
-    let Some(found) = WholeRecord::read(file, at) else {
-        return Err(Refusal::CutRecord);
-    };
+    let found = WholeRecord::read(file, at).ok_or(Refusal::CutRecord)?;
     let kind = Kind::try_from(u16_at(file, at + 4))?;
     if !found.fits(kind) {
         return Err(Refusal::WrongRecord);
@@ -232,7 +230,6 @@ fn record_at(file: &[u8], at: usize, starts: &RecordStarts) -> Result<Record, Re
 
 // The first refusal of a record, or the counts; then `starts` has where the records start.
 pub fn scan(file: &[u8], starts: &mut RecordStarts) -> Result<Counts, Refusal>
-    requires { length file.now ≤ 65536 }
     ensures { Scanned file.now (walked file.now) (read_by result) starts.new }
 {
     starts.clear();
