@@ -31,7 +31,7 @@ impl Default for Advance {
 }
 
 // By what places are told apart; the case by document 01's number, as an answer has it.
-#[derive(Clone, Copy)]
+#[derive(Clone, Copy, PartialEq, Eq)]
 pub struct Placing {
     pub case: usize,
     pub lane: usize,
@@ -87,18 +87,14 @@ impl Advance {
         }
     }
 
-    // Whether the place is told apart by k. Most differ in lane or case, so those come first: then nothing is rounded.
+    // Whether the place is told apart by k. Most differ in the lane, so that comes first: then nothing is rounded.
     #[tactic(auto, unfolding(crate::specs::Ends::placing_of))]
     fn is_told_by(self, k: Placing) -> bool
         ensures { result ≡ same_placing (placing_of self) k }
     {
         let at = self.position();
         let lane = at.lane;
-        lane.0 == k.lane
-            && self.case() == k.case
-            && branches::millimetres(at.s) == k.s
-            && branches::millimetres(at.offset) == k.offset
-            && branches::millimetres(self.short()) == k.short
+        lane.0 == k.lane && self.placing() == k
     }
 
     // Writes the place as row i of the lists: case and lane; s, offset and metres short.
