@@ -57,19 +57,14 @@ module _ (lanes : List ℕ) (points cumulative : List Float) (ahead : Bool) (l :
   pub onto_lane : (branch_onto lanes points cumulative ahead l next).lane ≡ next
   onto_lane = ap (λ (b : Branch). b.lane) onto_is
 
--- ---- entering a lane
+-- ---- entering a lane by a new key
 module _ (lanes : List ℕ) (b : Branch) (f : Front) (k : Key) (is : k ≡ key_of lanes b) (t : Bool)
-    (held : t ≡ holds same_key k f.entered) where
-  pub entered_before : t ≡ true → f ≡ enter lanes b f
+    (held : t ≡ holds same_key k f.entered) (new : t ≡ false) where
+  pub enter_none : 1024 ≤ length f.entered → record { todo = f.todo; entered = f.entered; full = true } ≡ enter lanes b f
   unfolding enter
-  entered_before e = sym (rw (← is, ← held, e))
+  enter_none h = sym (rw (← is, ← held, new, le-ltb (length f.entered) 1024 h))
 
-  module _ (new : t ≡ false) where
-    pub enter_none : 1024 ≤ length f.entered → record { todo = f.todo; entered = f.entered; full = true } ≡ enter lanes b f
-    unfolding enter
-    enter_none h = sym (rw (← is, ← held, new, le-ltb (length f.entered) 1024 h))
-
-    pub enter_new : length f.entered < 1024 → (todo : List Branch) (entered : List Key) → todo ≡ b ∷ f.todo → entered ≡ k ∷ f.entered
-        → record { todo = todo; entered = entered; full = f.full } ≡ enter lanes b f
-    unfolding enter
-    enter_new h todo entered e g = sym (rw (← is, ← held, new, lt-ltb (length f.entered) 1024 h, e, g))
+  pub enter_new : length f.entered < 1024 → (todo : List Branch) (entered : List Key) → todo ≡ b ∷ f.todo → entered ≡ k ∷ f.entered
+      → record { todo = todo; entered = entered; full = f.full } ≡ enter lanes b f
+  unfolding enter
+  enter_new h todo entered e g = sym (rw (← is, ← held, new, lt-ltb (length f.entered) 1024 h, e, g))

@@ -1,7 +1,7 @@
 -- The links of a lane followed from the last to the first in one go, as the code does it: the lanes that follow are entered, and whether
 -- there is one is kept. `follow` of the crate `advance` has it in two, as the Rust does; `links_are` shows that it is the same.
 use Rattle.std.specs.Prelude.{◌≡◌, Bool, cond, ℕ, ◌+◌, ◌-◌, ◌*◌, get_or, Float}
-use Rattle.std.proofs.Math.Path.{refl, sym, ap}
+use Rattle.std.proofs.Math.Path.{refl, ap}
 use Rattle.std.proofs.Common.{◌∙◌, add-one}
 use Rattle.std.proofs.Math.Bool.{true, false, not}
 use mathlib.Core.List.{List, [], ◌∷◌}
@@ -49,16 +49,6 @@ module _ (lanes : List ℕ) (n : ℕ) (points cumulative : List Float) (ahead : 
       by false e h = h
 
   -- the steps of the code
-  module _ (next : ℕ) (e : LinkFront) (b : Bool) (is : b ≡ is_next lanes n points cumulative l.lane l.up next) where
-    pub link_passed : b ≡ false → e ≡ enter_link next e
-    unfolding enter_link
-    link_passed f = sym (rw (← is, f))
-
-    pub link_entered : b ≡ true → (f : Front) → f ≡ enter lanes (branch_onto lanes points cumulative ahead l next) e.front
-        → record { front = f; any = true } ≡ enter_link next e
-    unfolding enter_link
-    link_entered t f h = sym (rw (← is, t, ← h))
-
   module _ (links : List ℕ) (end k : ℕ) (f : Front) where
     pub links_none : record { front = f; any = false } ≡ enter_links (led_to links end 0) f
     unfolding led_to enter_links

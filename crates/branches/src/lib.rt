@@ -122,22 +122,17 @@ pub fn exit_point(lanes: &[usize], points: &[f32], cumulative: &[f32], i: usize,
     line.point_at(s)
 }
 
-// The first point of lane i.
-fn head(lanes: &[usize], points: &[f32], cumulative: &[f32], i: usize) -> Point
+// The first and the last point of lane i.
+fn ends(lanes: &[usize], points: &[f32], cumulative: &[f32], i: usize) -> (Point, Point)
     requires { Laid lanes.now points.now cumulative.now i }
-    ensures { result ≡ head_of lanes.now points.now i }
+    ensures { result ≡ (head_of lanes.now points.now i, tail_of lanes.now points.now cumulative.now i) }
 {
     let line = lane_line(lanes, points, cumulative, i);
-    geometry::vertex(line.points, 0)
-}
-
-// The last point of lane i.
-fn tail(lanes: &[usize], points: &[f32], cumulative: &[f32], i: usize) -> Point
-    requires { Laid lanes.now points.now cumulative.now i }
-    ensures { result ≡ tail_of lanes.now points.now cumulative.now i }
-{
-    let line = lane_line(lanes, points, cumulative, i);
-    geometry::vertex(line.points, line.cumulative.len() - 1)
+    let last = line.cumulative.len() - 1;
+    (
+        geometry::vertex(line.points, 0),
+        geometry::vertex(line.points, last),
+    )
 }
 
 // The squared distance from p to the nearest place on lane i.
@@ -162,8 +157,7 @@ pub fn at_end(
     requires { Laid lanes.now points.now cumulative.now i × Laid lanes.now points.now cumulative.now next }
     ensures { result ≡ at_end lanes.now points.now cumulative.now i next up }
 {
-    let head = head(lanes, points, cumulative, i);
-    let tail = tail(lanes, points, cumulative, i);
+    let (head, tail) = ends(lanes, points, cumulative, i);
     let from_head = away(lanes, points, cumulative, next, head);
     let from_tail = away(lanes, points, cumulative, next, tail);
     if up {
@@ -211,6 +205,8 @@ pub fn link_count(fans: &[usize], ahead: bool, i: usize) -> usize
 }
 
 // The lanes of an accepted plan: their rows, the points of their lines and the arc length at each.
+// A lane is its row, a plain index as in the Rust, so each method asks that it is one of `count`: a type of checked rows would be of these lanes
+// alone, and made anew at each call.
 #[derive(Clone, Copy)]
 pub struct Lanes<'a> {
     pub rows: &'a [usize],
@@ -298,8 +294,7 @@ impl<'a> Lanes<'a> {
             Direction::Forward => ahead,
             Direction::Backward => !ahead,
             _ => {
-                let head = head(self.rows, self.points, self.cumulative, i);
-                let tail = tail(self.rows, self.points, self.cumulative, i);
+                let (head, tail) = ends(self.rows, self.points, self.cumulative, i);
                 exit.distance_to(head) <= exit.distance_to(tail)
             }
         }
@@ -370,6 +365,7 @@ impl Front {
     }
 
     // The branch b is put in flight unless its key was entered before, or does not fit.
+    #[tactic(auto, unfolding(crate::specs::Front::enter), using(crate::specs::HeldLaws::holds_any, crate::specs::HeldLaws::pushed))]
     fn enter(&mut self, lanes: &Lanes, b: Branch)
         requires { b.lane < lanes.now.count }
         ensures { front_of self.new ≡ enter lanes.now.rows.now b (front_of self.old) }
@@ -387,6 +383,7 @@ impl Front {
     }
 
     // The branch l goes on to the lane in row `next` where that follows its own; answers whether it does.
+    #[tactic(auto, unfolding(crate::specs::Links::enter_link), using(crate::specs::BranchLaws::next_there, crate::specs::BranchLaws::onto_lane))]
     fn enter_link(&mut self, lanes: &Lanes, ahead: bool, l: Leaving, next: usize) -> bool
         requires { l.lane < lanes.now.count }
         ensures { (any : Bool) → link_front_of self.new (any || result)
@@ -400,7 +397,8 @@ impl Front {
         true
     }
 
-    // The branch l goes on along the `count` links before row `end`, from the last to the first; answers whether a lane follows.
+    // The branch l goes on along the `count` links before row `end`, from the last to the first; answers whether a lane follows. It takes the
+    // tables that it reads, and no `Plan`, whose fact would ask for more.
     pub fn enter_links(
         &mut self,
         lanes: &Lanes,

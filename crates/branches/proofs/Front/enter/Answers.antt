@@ -1,20 +1,13 @@
--- A key entered before changes nothing, a 1,025th marks the run as full, and any other goes in with its branch.
+-- A 1,025th key marks the run as full, and any other that is new goes in with its branch.
 use Rattle.std.specs.Prelude.{length, reverse}
 use Rattle.std.proofs.Common.{arith, ap, ◌∙◌, sym}
 use Rattle.std.proofs.lemmas.Bool.{eqb-true, eqb-false}
 use Rattle.std.proofs.lemmas.List.{length-reverse}
 use Rattle.branches.specs.Branches.{same_key}
-use Rattle.branches.specs.BranchLaws.{entered_before, enter_none, enter_new}
+use Rattle.branches.specs.BranchLaws.{enter_none, enter_new}
 use Rattle.branches.specs.Held.{front_of}
 use Rattle.branches.specs.HeldLaws.{pushed, holds_any}
 use Rattle.branches.proofs.Front.enter.Goals as goal
-
-pub returns-then-holds : goal.returns-then-holds
-returns-then-holds c =
-    let f = c.args.self.now in
-    let k = c.key_of-k.result in
-    let held = c.holds.ensures ∙ sym (holds_any same_key k (reverse f.keys.items)) in
-    entered_before c.args.lanes.now.rows.now c.args.b (front_of f) k c.key_of-k.ensures c.holds.result held c.if-holds.true
 
 pub returns-then-is_full : goal.returns-then-is_full
 returns-then-is_full c =

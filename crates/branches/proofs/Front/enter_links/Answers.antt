@@ -32,8 +32,3 @@ loop-at-preserved c =
           ∙ ap (λ (i : ℕ). enter_link s.rows.now s.count s.points.now s.cumulative.now c.args.ahead c.args.l (get_or c.args.links.now i 0)
           (link_front_of l.self l.any)) (sym row)));
     }
-
-pub returns : goal.returns
-returns c =
-    let all : c.args.end - c.loop-at.at ≡ c.args.count = omega (arith, c.loop-at.invariant.left) in
-    rw all at c.loop-at.invariant.followed
