@@ -193,14 +193,15 @@ impl Found {
         }
     }
 
-    // Whether a place told apart by k was given before.
+    // Whether a place told apart by k was given before. What it shares with `Front::holds` is std's `any`; a place holds no key to compare by `==`.
     fn holds(&self, k: Placing) -> bool
         ensures { result ≡ list_any (λ a. same_placing (placing_of a) k) (reverse self.now.out.items) }
     {
         self.out.iter().rev().any(|held| held.is_told_by(k))
     }
 
-    // The place a is given unless it was given before.
+    // The place a is given unless it was given before. That one more fits is asked from here up to the loop of `explore`, which counts the steps: a
+    // count kept in `Found` would be read by no code.
     #[tactic(auto, unfolding(crate::specs::Ends::give), using(crate::specs::EndLaws::told_any, branches::specs::HeldLaws::pushed))]
     fn give(&mut self, a: Advance)
         requires { array_vec_len self.old.out < 1026 }

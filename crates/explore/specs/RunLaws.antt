@@ -6,7 +6,6 @@ use mathlib.Core.List.{List, [], ◌∷◌}
 use Prim.Native.Nat.{ℕ, zero, suc, ◌+◌, ◌-◌, ◌<◌, ◌≤◌}
 use Rattle.std.specs.Float.{binary64}
 use Rattle.std.specs.Float.Ieee.{sub, lt}
-use borrow.Author.Tests.{lt-ltb, le-ltb}
 use Rattle.coords.specs.declared.Point.{Point}
 use Rattle.rows.specs.Rows.{length_of, first_link, successors, predecessors}
 use Rattle.branches.specs.declared.Branch.{Branch}
@@ -15,7 +14,7 @@ use Rattle.branches.specs.Tables.{Tables, led_to}
 use Rattle.branches.specs.Branches.{room_of, exit_of, leaving_of, link_end, link_count, linked_of, next_lanes}
 use Rattle.branches.specs.Front.{enter_all, is_empty}
 use Rattle.ends.specs.Ends.{Found, place_in}
-use Rattle.explore.specs.Explore.{State, follow, with_todo, step_from, step, goes_on, run, run_from}
+use Rattle.explore.specs.Explore.{State, follow, step, goes_on, run, run_from}
 use Rattle.branches.specs.Links.{LinkFront, enter_links, links_are}
 
 -- ---- a branch that is followed
@@ -68,26 +67,6 @@ module _ (t : Tables) (ahead : Bool) (b : Branch) (q : State) (room : Float)
         → record { front = e.front; found = found } ≡ follow t ahead b q
     unfolding follow
     follow_dead a found g = sym (rw (← is, left, sym any_is ∙ a, ← g, front_is ∙ none_entered (next_lanes t ahead b) (sym any_is ∙ a)))
-
--- ---- the newest branch taken off
-pub step_empty : (t : Tables) (ahead : Bool) (q : State) → q.front.todo ≡ [] → q ≡ step t ahead q
-unfolding step_from
-step_empty t ahead q e = sym (rw e)
-
-module _ (t : Tables) (ahead : Bool) (q : State) (b : Branch) (bs : List Branch) (top : q.front.todo ≡ b ∷ bs) where
-  pub step_none : t.lane_count ≤ b.lane → with_todo bs q ≡ step t ahead q
-  unfolding step_from
-  step_none h = sym (rw (top, le-ltb b.lane t.lane_count h))
-
-  pub step_one : b.lane < t.lane_count → follow t ahead b (with_todo bs q) ≡ step t ahead q
-  unfolding step_from
-  step_one h = sym (rw (top, lt-ltb b.lane t.lane_count h))
-
--- ---- the links followed stand in their table
-pub links_fit : (fans : List ℕ) (ahead : Bool) (i : ℕ)
-    → (link_end fans ahead i ≤ first_link fans i + successors fans i + predecessors fans i) × (link_count fans ahead i ≤ link_end fans ahead i)
-links_fit fans true i = omega arith
-links_fit fans false i = omega arith
 
 -- ---- whether there is a next step
 pub none_left : (todo : List Branch) (full : Bool) → todo ≡ [] → (not (is_empty todo) && not full) ≡ false

@@ -48,6 +48,7 @@ impl State {
     }
 
     // The newest branch is taken off, and followed where its lane is in the plan.
+    #[tactic(auto, unfolding(crate::specs::Explore::step_from), using(branches::specs::HeldLaws::pushed))]
     fn step(&mut self, plan: &Plan, ahead: bool)
         requires { array_vec_len self.old.found.out < 1026 }
         ensures stepped { state_of self.new ≡ step (tables_of plan.now) ahead (state_of self.old) }

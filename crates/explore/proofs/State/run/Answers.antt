@@ -1,6 +1,6 @@
 -- After some turns what is left of the counted steps makes of the state what the whole run makes of the first.
 use Rattle.std.specs.Prelude.{◌≡◌, ◌-◌, false, not, reverse, length}
-use Rattle.std.proofs.Common.{refl, sym, ap, ◌∙◌, arith}
+use Rattle.std.proofs.Common.{sym, ap, ◌∙◌, arith}
 use Rattle.std.proofs.lemmas.Bool.{eqb-true, eqb-false}
 use Rattle.std.proofs.lemmas.List.{nil_from_length, length-reverse}
 use Rattle.branches.specs.Front.{is_empty}
@@ -10,9 +10,6 @@ use Rattle.explore.specs.Held.{state_of}
 use Rattle.explore.specs.RunLaws.{none_left, keys_full, some_left, run_none, run_next, run_ended}
 use Rattle.explore.proofs.State.run.Goals as goal
 use Rattle.explore.proofs.State.run.Goals.{then-is_empty-via-then-is_empty, then-is_empty-via-else-is_empty+then-self}
-
-pub loop-init : goal.loop-init
-loop-init c = record { placed = omega arith; left = refl }
 
 pub returns-then-is_empty : goal.returns-then-is_empty
 returns-then-is_empty c =
@@ -26,9 +23,6 @@ returns-then-is_empty c =
           ended (none_left (reverse f.todo.items) f.full (ap reverse none))
       | then-is_empty-via-else-is_empty+then-self w ↦ ended (keys_full (not (is_empty (reverse f.todo.items))) f.full w.if-self.true)
     ]
-
-pub step-requires : goal.step-requires
-step-requires c = omega (arith, c.loop.invariant.placed)
 
 pub loop-preserved : goal.loop-preserved
 loop-preserved c =
