@@ -21,7 +21,8 @@ use plan_format::Refusal;
 use road::StationedLane;
 
 // What `advance` answers: document 01's number, how many keys were entered, and how many positions stand in the lists. It is what C gets; an `Ok`
-// is this struct with number 0, since one of its own would repeat two of the three fields.
+// is this struct with number 0, since one of its own would repeat two of the three fields. Each answer for C has its own
+// fields and zeros, so its own `From`: no macro of ours may write an impl.
 #[repr(C)]
 #[derive(Clone, Copy)]
 pub struct Advanced {
@@ -45,53 +46,52 @@ impl From<Result<Advanced, Refusal>> for Advanced {
     }
 }
 
-// The first branch from lane i that moves `up` it.
-fn first_branch(ahead: bool, i: usize, arc: f32, offset: f64, distance: f64, up: bool) -> Branch
-    ensures { result ≡ first_branch ahead i arc offset distance up }
-{
-    Branch {
-        lane: i,
-        arc,
-        up,
-        left: offset * branches::side(ahead, up),
-        remaining: float::abs(distance),
-    }
-}
-
-// Puts the first branches in flight: one with the traffic of lane i, or one each way, of which that up the centerline is taken first.
-fn start(
-    front: &mut Front,
-    lanes: &Lanes,
-    ahead: bool,
-    i: usize,
+// Where a search begins: the row of a lane, how far along its centerline, the offset toward the left of the road, and how far to go, back where
+// that is negative.
+#[derive(Clone, Copy)]
+struct Start {
+    lane: usize,
     arc: f32,
     offset: f64,
     distance: f64,
-)
-    requires { (i < lanes.now.count) × (front.old.todo.items ≡ []) }
-    ensures first { reverse front.new.todo.items ≡ first_branches lanes.now.rows.now ahead i arc offset distance }
-    ensures keys { front.new.keys.items ≡ front.old.keys.items }
-    ensures full { front.new.full ≡ front.old.full }
-{
-    match lanes.direction(i) {
-        Direction::Both => {
-            front
-                .todo
-                .push(first_branch(ahead, i, arc, offset, distance, false));
-            front
-                .todo
-                .push(first_branch(ahead, i, arc, offset, distance, true));
+}
+
+impl Start {
+    // The first branch that moves `up` the lane.
+    fn branch(self, ahead: bool, up: bool) -> Branch
+        ensures { result ≡ first_branch ahead self.lane self.arc self.offset self.distance up }
+    {
+        Branch {
+            lane: self.lane,
+            arc: self.arc,
+            up,
+            left: self.offset * branches::side(ahead, up),
+            remaining: float::abs(self.distance),
         }
-        Direction::Forward => front
-            .todo
-            .push(first_branch(ahead, i, arc, offset, distance, ahead)),
-        _ => front
-            .todo
-            .push(first_branch(ahead, i, arc, offset, distance, !ahead)),
+    }
+
+    // Puts the first branches in flight: one with the traffic of the lane, or one each way, of which that up the centerline is taken first.
+    #[tactic(auto, unfolding(crate::specs::Advance::first_branches), using(branches::specs::BranchLaws::both_at, branches::specs::BranchLaws::forward_at))]
+    fn put(self, front: &mut Front, lanes: &Lanes, ahead: bool)
+        requires { (self.lane < lanes.now.count) × (front.old.todo.items ≡ []) }
+        ensures first { reverse front.new.todo.items
+            ≡ first_branches lanes.now.rows.now ahead self.lane self.arc self.offset self.distance }
+        ensures keys { front.new.keys.items ≡ front.old.keys.items }
+        ensures full { front.new.full ≡ front.old.full }
+    {
+        match lanes.direction(self.lane) {
+            Direction::Both => {
+                front.todo.push(self.branch(ahead, false));
+                front.todo.push(self.branch(ahead, true));
+            }
+            Direction::Forward => front.todo.push(self.branch(ahead, ahead)),
+            _ => front.todo.push(self.branch(ahead, !ahead)),
+        }
     }
 }
 
 // Writes the places into the lists.
+#[tactic(auto, unfolding(crate::specs::Advance::rows_of))]
 fn write_answers(out: &[Advance], rows: &mut [usize], positions: &mut [f64])
     requires { (2 * length out.now ≤ length rows.old) × (3 * length out.now ≤ length positions.old) }
     ensures rows { rows.new ≡ over (rows_of case_row (reverse out.now)) rows.old }
@@ -103,6 +103,7 @@ fn write_answers(out: &[Advance], rows: &mut [usize], positions: &mut [f64])
 }
 
 // The answer of a run that has come this far, and its places in the lists where they fit.
+#[tactic(auto, unfolding(crate::specs::Advance::answered_by))]
 fn answer(state: &State, rows: &mut [usize], positions: &mut [f64]) -> Result<Advanced, Refusal>
     ensures { AnswerOf (advanced_of result) rows.new positions.new (answered (state_of state.now) rows.old positions.old) }
 {
@@ -119,34 +120,24 @@ fn answer(state: &State, rows: &mut [usize], positions: &mut [f64]) -> Result<Ad
     })
 }
 
-// Every place from lane i on.
+// Every place from `from` on.
+#[tactic(auto, unfolding(crate::specs::Advance::explored))]
 fn search(
     plan: &Plan,
-    i: usize,
-    arc: f32,
-    offset: f64,
-    distance: f64,
+    from: Start,
     rows: &mut [usize],
     positions: &mut [f64],
 ) -> Result<Advanced, Refusal>
-    requires { i < plan.now.lanes.count }
+    requires { from.lane < plan.now.lanes.count }
     ensures { AnswerOf (advanced_of result) rows.new positions.new
-        (answered (explored (tables_of plan.now) i arc offset distance) rows.old positions.old) }
+        (answered (explored (tables_of plan.now) from.lane from.arc from.offset from.distance) rows.old positions.old) }
 {
-    let ahead = distance >= 0.0;
+    let ahead = from.distance >= 0.0;
     let mut state = State {
         front: Front::new(),
         found: Found::new(),
     };
-    start(
-        &mut state.front,
-        &plan.lanes,
-        ahead,
-        i,
-        arc,
-        offset,
-        distance,
-    );
+    from.put(&mut state.front, &plan.lanes, ahead);
     state.run(plan, ahead);
     answer(&state, rows, positions)
 }
@@ -168,6 +159,7 @@ fn arc_at(plan: &Plan, i: usize, p: usize, s: f64) -> f32
 
 // Every place `distance` metres on from `from` along the lanes: a row of case and lane, and one of s, offset and metres short, for each. The lists
 // are written only where all rows fit.
+#[tactic(auto, unfolding(crate::specs::Advance::advance_rows, crate::specs::Advance::advance_row))]
 pub fn advance(
     plan: &Plan,
     bounds: &[f64],
@@ -194,6 +186,11 @@ pub fn advance(
     if !float::is_finite(distance) {
         return Err(Refusal::NotADistance);
     }
-    let arc = arc_at(plan, i, p, from.s);
-    search(plan, i, arc, from.offset, distance, rows, positions)
+    let start = Start {
+        lane: i,
+        arc: arc_at(plan, i, p, from.s),
+        offset: from.offset,
+        distance,
+    };
+    search(plan, start, rows, positions)
 }

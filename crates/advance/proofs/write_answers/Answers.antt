@@ -1,20 +1,17 @@
 -- The rows of the first i places stand at the front of the lists.
 use Rattle.std.specs.Prelude.{◌≡◌, ℕ, ◌+◌, ◌<◌, List, ◌∷◌, reverse, take, length, get_or}
 use Rattle.std.proofs.Common.{ap, sym, ◌∙◌, arith}
-use Rattle.std.proofs.lemmas.List.{length-reverse, length-take-le, take_more, take_all}
+use Rattle.std.proofs.lemmas.List.{length-reverse, length-take-le, take_more}
 use Rattle.geometry.specs.Over.{over}
 use Rattle.branches.specs.HeldLaws.{pushed}
 use Rattle.ends.specs.declared.Advance.{Advance}
 use Rattle.advance.specs.Advance.{rows_of, case_row, metre_row}
-use Rattle.advance.specs.QueryLaws.{nothing_written, cases_next, metres_next}
+use Rattle.advance.specs.QueryLaws.{cases_next, metres_next}
 use Rattle.advance.proofs.write_answers.Goals as goal
 
 -- one place more
 next : (out : List Advance) (i : ℕ) (d : Advance) → i < length out → reverse (take (i + 1) out) ≡ get_or out i d ∷ reverse (take i out)
 next out i d h = ap reverse (take_more out i d h) ∙ pushed (take i out) (get_or out i d)
-
-pub loop-i-init : goal.loop-i-init
-loop-i-init c = record { rows = nothing_written case_row c.args.rows.now; positions = nothing_written metre_row c.args.positions.now }
 
 pub loop-i-preserved : goal.loop-i-preserved
 loop-i-preserved c =
@@ -30,9 +27,3 @@ loop-i-preserved c =
           ∙ metres_next (reverse (take l.i out)) _ l.i long c.args.positions.now l.positions l.invariant.positions (omega arith)
           ∙ ap (λ (xs : List Advance). over (rows_of metre_row xs) c.args.positions.now) (sym (next out l.i _ c.loop-i-test.true));
     }
-
-pub returns-clause-rows : goal.returns-clause-rows
-returns-clause-rows c = rw (take_all c.loop-i.i c.args.out.now c.loop-i-test.false) at c.loop-i.invariant.rows
-
-pub returns-clause-positions : goal.returns-clause-positions
-returns-clause-positions c = rw (take_all c.loop-i.i c.args.out.now c.loop-i-test.false) at c.loop-i.invariant.positions
