@@ -67,7 +67,9 @@ impl<'a> Drawing<'a> {
         let mut labels = Labels::new(frame.area());
         let marked = Pen::marked(paper, &frame, &lanes);
         let (numbers, unnumbered) = lanes.numbers(&mut labels, &marked);
-        let ground = lanes.ground(&labels);
+        let mut arrows = labels.clone();
+        marked.iter().for_each(|at| arrows.take(Rect::around(*at, lanes.text, lanes.text)));
+        let ground = lanes.ground(&arrows);
         lanes.keep_clear(&mut labels);
         Some(Drawing { paper, frame, lanes, labels, ground, numbers, unnumbered })
     }

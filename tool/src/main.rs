@@ -79,6 +79,9 @@ fn open(input: &Input) -> Result<Paper, Failure> {
 }
 
 fn make(job: &Job) -> Result<(), Failure> {
+    if job.output.is_none() && streams::output_is_terminal() {
+        return Err(Failure::Use("standard output is a terminal, and a plan is no text: -o PLAN writes a file".into()));
+    }
     let input = Input::of_text(job.source.name(), &streams::read(&job.source)?)?;
     if !job.unchecked {
         Plan::new(&input.file).map_err(|refusal| Failure::Refused(fault::told(&input, refusal)))?;

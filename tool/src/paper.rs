@@ -42,7 +42,7 @@ pub struct Snap {
     pub nearest: Nearest,
     /// How far it is from the point, in metres.
     pub metres: f64,
-    /// The lane that is nearer, where there is one that no route is found on: its number, its type, and how far it is.
+    /// The lane that is nearer, where there is one that no route starts or ends on: its number, its type, and how far it is.
     pub nearer: Option<(LaneId, LaneType, f64)>,
 }
 

@@ -55,6 +55,11 @@ pub fn input_is_terminal() -> bool {
     !INPUT_CLOSED.load(Ordering::Relaxed) && io::stdin().is_terminal()
 }
 
+/// Whether standard output is a terminal, which shows no plan.
+pub fn output_is_terminal() -> bool {
+    !OUTPUT_CLOSED.load(Ordering::Relaxed) && io::stdout().is_terminal()
+}
+
 /// Writes all bytes to a file, or to standard output.
 pub fn write(to: Option<&Path>, bytes: &[u8]) -> Result<(), Failure> {
     match to {

@@ -17,8 +17,8 @@ pub const FORM: &str = "  lane N TYPE DIRECTION  X Y Z  X Y Z ..  [ends  X Y Z  
   beside LANE S left|right
 
 A `#` starts a comment. DIRECTION is forward, backward or both, as the traffic
-goes along the points. TYPE is a name or its number; routes are found on driving
-lanes alone:
+goes along the points. TYPE is a name or its number; routes start and end on
+driving lanes alone:
 
    0 none             7 exit            14 restricted      21 roadWorks
    1 driving          8 onRamp          15 biking          22 tram

@@ -23,8 +23,10 @@ const GAP: f64 = 0.5;
 const ASIDE: f64 = 8.0;
 /// A plan that is smaller than this is no junction in metres.
 const SMALL: f64 = 5.0;
-/// Stations may differ from a lane's metres by so many metres, and by a quarter, as on the outside of a bend.
+/// Stations may differ from a lane's metres by so many metres; in a bend, where outer lanes are longer than the road, also by a quarter.
 const UNLIKE: f64 = 1.0;
+/// Along a straight lane, by so much of its length.
+const UNLIKE_STRAIGHT: f64 = 0.02;
 
 /// The warnings of a plan: those of the whole plan first, then record by record.
 pub fn of(paper: &Paper) -> Vec<Warning> {
@@ -100,7 +102,9 @@ impl<'a> Drawing<'a> {
         };
         let size = extent(|p| p.x).max(extent(|p| p.y));
         let mut words = Vec::new();
-        if !points.is_empty() && size < SMALL {
+        if points.is_empty() {
+            words.push("the plan has no lanes".into());
+        } else if size < SMALL {
             words.push(format!("the whole plan is {} m wide: are its points in kilometres?", metres(size)));
         }
         if self.unmirrored() {
@@ -256,11 +260,13 @@ fn middle(line: &[Point]) -> Point {
 fn unlike(lane: &Lane, section: &Section) -> Option<String> {
     let (points, stations) = (&lane.points, &section.stations);
     let last = points.len().min(stations.len()).checked_sub(1)?;
+    let straight = distance(points[0], points[last]) > 0.999 * length_of_line(points);
+    let most = if straight { UNLIKE_STRAIGHT } else { 0.25 };
     let pieces = (0..last).map(|i| (i, i + 1));
     let (i, j, along, by) = std::iter::once((0, last)).chain(pieces).find_map(|(i, j)| {
         let (along, by) = (length_of_line(&points[i..=j]), stations[j] - stations[i]);
         let off = (along - by).abs();
-        (off > UNLIKE && off > along.max(by) / 4.0).then_some((i, j, along, by))
+        (off > UNLIKE && off > most * along.max(by)).then_some((i, j, along, by))
     })?;
     let part = if (i, j) == (0, last) { String::new() } else { format!(" from point {} to point {}", i + 1, j + 1) };
     let thousand = if (999.0..=1001.0).contains(&(by / along)) { ": are its points in kilometres?" } else { "" };

@@ -143,7 +143,7 @@ fn snap_words(snap: &Snap) -> String {
 
 /// A lane nearer than the one that a point was taken to.
 pub fn nearer_words(lane: LaneId, kind: LaneType, off: f64) -> String {
-    format!("lane {} ({kind}) is nearer, {} m, but routes are found on driving lanes alone", lane.0, metres(off))
+    format!("lane {} ({kind}) is nearer, {} m, but routes start and end on driving lanes alone", lane.0, metres(off))
 }
 
 fn moved_words(moved: &Moved) -> Vec<String> {

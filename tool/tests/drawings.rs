@@ -5,7 +5,7 @@ mod xml;
 
 use common::{file, fixed, path, run, shell};
 use kartsodi::records::LaneType;
-use xml::{parse, Element};
+use xml::{parse, Element, Node};
 
 const EXAMPLES: [&str; 4] = ["junction", "crossing", "roundabout", "tee"];
 
@@ -136,6 +136,35 @@ fn assert_apart(labels: &[Label]) {
     }
 }
 
+/// The marks of a picture that have an inside, rings, discs and squares, each as left, top, right, bottom; without those of the legend.
+fn marks(element: &Element) -> Vec<[f64; 4]> {
+    if element.attribute("transform").is_some() {
+        return vec![];
+    }
+    if element.name == "circle" {
+        let [x, y, r] = ["cx", "cy", "r"].map(|name| element.number(name));
+        return vec![[x - r, y - r, x + r, y + r]];
+    }
+    // Stripes of a lane's surface are white too, and are not filled.
+    if element.name == "path" && element.attribute("stroke") == Some("#ffffff") && element.attribute("fill").is_some() {
+        let places = element.attribute("d").expect("places").split(['M', 'L', 'Z', ' ']);
+        let numbers: Vec<f64> = places.filter_map(|word| word.parse().ok()).collect();
+        let least = |axis: usize| numbers.iter().skip(axis).step_by(2).copied().fold(f64::INFINITY, f64::min);
+        let most = |axis: usize| numbers.iter().skip(axis).step_by(2).copied().fold(f64::NEG_INFINITY, f64::max);
+        return vec![[least(0), least(1), most(0), most(1)]];
+    }
+    element.children.iter().filter_map(Node::element).flat_map(marks).collect()
+}
+
+/// No mark hides a part of a label.
+fn assert_unmarked(labels: &[Label], marks: &[[f64; 4]]) {
+    for Label { plate: [left, top, right, bottom], text } in labels {
+        for [l, t, r, b] in marks {
+            assert!(left > r || l > right || top > b || t > bottom, "a mark at {l} {t} lies on {text}");
+        }
+    }
+}
+
 /// All labels lie in the picture's part of the drawing.
 fn assert_inside(picture: &Element, labels: &[Label]) {
     let view = picture.attribute("viewBox").expect("a part").split(' ').map(|x| x.parse().expect("a number"));
@@ -230,6 +259,27 @@ fn the_examples_are_drawn_rightly() {
         };
         assert!(warnings.iter().all(meant), "{name}: {warnings:?}");
     }
+}
+
+/// In the pictures of this project, and on the pages made of them.
+#[test]
+fn no_mark_lies_on_a_label() {
+    let mut seen = 0;
+    for name in pictures() {
+        let text = file(&format!("{name}.txt"));
+        let root = drawn(&text);
+        assert_unmarked(&labels(&root), &marks(&root));
+        let page = page(&text);
+        let all = page.all();
+        let numbers = labels(all.iter().find(|element| element.attribute("id") == Some("numbers")).expect("numbers"));
+        for picture in page.named("section").flat_map(|section| section.named("svg").collect::<Vec<_>>()) {
+            let marks = marks(picture);
+            assert_unmarked(&numbers, &marks);
+            assert_unmarked(&labels(picture), &marks);
+            seen += marks.len();
+        }
+    }
+    assert!(seen > 50, "{seen} marks");
 }
 
 #[test]

@@ -41,6 +41,10 @@ fn finding_1_a_failed_make_writes_nothing() {
     run(&["make", "-o", plan.to_str().unwrap()], text).refused();
     assert_eq!(std::fs::read(&plan).unwrap(), run(&["make"], TWO_LANES.as_bytes()).done(), "what stood there stands");
     std::fs::remove_dir_all(&folder).unwrap();
+    // Piped on, it is a plan without lanes, and no part of the one that was meant.
+    let piped = shell("printf 'lane 1 1 forward 0 0 0 8 0 0\\nlnk 1 successor 2\\n' | $K make | $K answer --bits");
+    assert_eq!(piped.text(), "plan 0 0 0\n");
+    assert!(piped.err.contains("line 2: 'lnk'"), "{}", piped.err);
 }
 
 /// Nor does any other command write a part of a page; a file that cannot be written stays as it is.
@@ -140,6 +144,11 @@ fn finding_3_links_are_not_mirrored() {
     );
     let back = "lane 1 driving forward 0 0 0 8 0 0\nlane 2 driving forward 8 0 0 16 0 0\nlink 2 predecessor 1\n";
     assert_eq!(warned(back), ["line 3: there is no `link 1 successor 2`: no route and no advance goes on over it"]);
+    let places = "section 1 0 0 8 0 8\nsection 2 0 0 8 0 8\nplace 1 1 0 -1\nplace 2 2 0 -1\nadvance 2 0 0 -6\n";
+    let page = answered(&format!("{one_way}{places}"));
+    assert!(page.contains("dead end, 6.000 m short: lane 2, station 0.000"), "{page}");
+    let page = answered(&format!("{TWO_LANES}{places}"));
+    assert!(page.contains("reached: lane 1, station 2.000"), "{page}");
     let aside = "lane 1 driving forward 0 0 0 8 0 0\nlane 2 driving forward 0 3 0 8 3 0\nlink 1 neighbour 2\n";
     assert_eq!(warned(aside), ["line 3: there is no `link 2 neighbour 1`: no route changes back"]);
 }
@@ -171,6 +180,18 @@ fn finding_3_stations_unlike_metres() {
         shifted,
         ["line 3: lane 1 is 20.000 m long from point 1 to point 2, and the stations of its section go 10.000 m on"]
     );
+    // The one that was found; and of a bend, what its outer lanes have more than the road is no mistake.
+    let two = "lane 1 driving forward 0 0 0 32 0 0\nsection 1 0 0 20 0 20\nplace 1 1 0 -1\n";
+    assert_eq!(warned(two), ["line 3: lane 1 is 32.000 m long, and the stations of its section go 20.000 m on"]);
+    assert_eq!(warned(&two.replace("20 0 20", "31 0 31")), [""; 0]);
+    assert_eq!(warned(&two.replace("20 0 20", "28 0 28")).len(), 1);
+    let bend = "lane 1 driving forward 0 0 0 12 5 0 24 0 0\nsection 1 0 0 20 0 10 20\nplace 1 1 0 -1\n";
+    assert_eq!(warned(bend), [""; 0]);
+}
+
+#[test]
+fn a_plan_without_lanes() {
+    assert_eq!(warned(""), ["the plan has no lanes"]);
 }
 
 #[test]
@@ -244,7 +265,7 @@ route 2 -1 0    6 9 0
 fn finding_4_a_point_on_a_bus_lane() {
     let page = answered(BUS);
     let told = "taken to lane 1, which is 3.500 m away, 2.000 m along its points; \
-                lane 3 (bus) is nearer, 0.000 m, but routes are found on driving lanes alone";
+                lane 3 (bus) is nearer, 0.000 m, but routes start and end on driving lanes alone";
     assert!(page.contains(&format!("start: {told}")), "{page}");
     assert!(page.contains("goal: taken to lane 1, which is 9.000 m away, 6.000 m along its points\n"), "{page}");
     assert!(page.contains("start: on lane 1, 2.000 m along its points, 1.000 m off\n"), "{page}");
@@ -252,9 +273,9 @@ fn finding_4_a_point_on_a_bus_lane() {
         warned(BUS),
         [
             "line 3: the start is taken to lane 1, which is 3.500 m away; lane 3 (bus) is nearer, 0.000 m, \
-             but routes are found on driving lanes alone",
+             but routes start and end on driving lanes alone",
             "line 3: the goal is taken to lane 1, which is 3.500 m away; lane 3 (bus) is nearer, 0.000 m, \
-             but routes are found on driving lanes alone",
+             but routes start and end on driving lanes alone",
             "line 4: the goal is taken to lane 1, which is 9.000 m away",
         ]
     );

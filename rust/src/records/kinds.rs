@@ -62,7 +62,7 @@ numbered! {
     LaneType: u8 {
         /// Surface inside the road without a function.
         None = 0 "none",
-        /// An ordinary traffic lane: the one type that routes are found on.
+        /// An ordinary traffic lane: the one type that routes start and end on.
         Driving = 1 "driving",
         /// One lane for traffic both ways, such as a centre turn lane.
         Bidirectional = 2 "bidirectional",
@@ -120,7 +120,7 @@ numbered! {
 }
 
 impl LaneType {
-    /// Whether routes are found on it.
+    /// Whether routes start and end on it.
     pub fn drives(self) -> bool {
         self == LaneType::Driving
     }

@@ -13,6 +13,9 @@ use kartsodi::Point;
 /// How wide a lane is drawn, in metres. A plan does not say how wide its lanes are.
 pub const LANE_WIDTH: f64 = 3.5;
 
+/// How far a mark reaches from its place, in heights of a label's text, with what stays free around it.
+pub const MARK: f64 = 0.4;
+
 /// A lane with its centre line as it is drawn.
 pub struct DrawnLane<'a> {
     pub lane: &'a Lane,
@@ -58,7 +61,8 @@ impl<'a> Lanes<'a> {
         self.exits().any(|exit| exit.goes_on == goes_on)
     }
 
-    /// What lies on the ground: edges, surfaces, centre lines, arrows, lane ends. The arrows keep clear of labels.
+    /// What lies on the ground: edges, surfaces, centre lines, arrows, lane ends. The arrows keep clear of labels, and of marks where they are taken
+    /// among them.
     pub fn ground(&self, labels: &Labels) -> String {
         let paths: Vec<String> = self.drawn.iter().map(|drawn| drawn.line.path()).collect();
         let edge = (0.06 * self.width).clamp(1.0, 3.0);
@@ -118,7 +122,7 @@ impl<'a> Lanes<'a> {
     }
 
     /// The number of each lane on a plate, and the lanes for whose number there is no room. Each plate is taken among the labels, and covers none of
-    /// the places marked where it can go elsewhere. Short lanes come first, since they have the fewest places.
+    /// the marks where it can go elsewhere. Short lanes come first, since they have the fewest places.
     pub fn numbers(&self, labels: &mut Labels, marked: &[At]) -> (String, Vec<usize>) {
         let mut order: Vec<usize> = (0..self.drawn.len()).collect();
         order.sort_by(|a, b| self.drawn[*a].line.length().total_cmp(&self.drawn[*b].line.length()));
@@ -137,33 +141,54 @@ impl<'a> Lanes<'a> {
         (out, left_out)
     }
 
-    /// The free box for a lane's number: on the lane, where it covers least of other lanes, or else beside it.
+    /// The free box for a lane's number: on the lane, or beside it and off all lanes where only there it covers no lane end, or else anywhere beside it.
+    /// It covers a mark only where there is no other box.
     fn plate(&self, i: usize, labels: &mut Labels, marked: &[At]) -> Option<Rect> {
-        let drawn = &self.drawn[i];
-        let (width, height) = (drawn.number_width(self.text), 1.2 * self.text);
-        let length = drawn.line.length();
-        let spots = (1..24).map(|part| part as f64 / 24.0);
-        let on = spots.map(|part| (part, Rect::around(drawn.line.at(part * length).0, width, height)));
-        let roomy = length > 1.5 * width.max(height);
-        let fits = on.filter(|(_, rect)| roomy && labels.free(rect));
-        let least = fits.map(|(part, rect)| (self.covered(i, &rect, marked) + (part - 0.5).abs(), rect));
-        if let Some((_, rect)) = least.min_by(|a, b| a.0.total_cmp(&b.0)) {
-            labels.take(rect);
-            return Some(rect);
-        }
-        labels.beside(drawn.line.at(0.5 * length).0, [width, height], 40, |_| true)
+        let line = &self.drawn[i].line;
+        let size = [self.drawn[i].number_width(self.text), 1.2 * self.text];
+        let ends: Vec<At> = self.exits().map(|exit| exit.at).collect();
+        let middle = line.at(0.5 * line.length()).0;
+        let unmarked = |rect: &Rect| self.clears(rect, marked);
+        let clear = |rect: &Rect| unmarked(rect) && self.clears(rect, &ends);
+        let aside = |rect: &Rect| clear(rect) && self.off_lanes(rect) && self.leads_to(rect.middle(), middle, i);
+        let plate = self.on_lane(i, size, labels, clear).or_else(|| labels.beside(middle, size, 5, aside));
+        let plate = plate.or_else(|| self.on_lane(i, size, labels, unmarked));
+        plate
+            .or_else(|| labels.beside(middle, size, 40, unmarked))
+            .or_else(|| labels.beside(middle, size, 40, |_| true))
     }
 
-    /// How much a box covers: centre lines of other lanes, lane ends, places marked.
-    fn covered(&self, i: usize, rect: &Rect, marked: &[At]) -> f64 {
+    /// The free box of this size on a lane that is as wanted and covers least of other lanes; it is taken.
+    fn on_lane(&self, i: usize, size: [f64; 2], labels: &mut Labels, wanted: impl Fn(&Rect) -> bool) -> Option<Rect> {
+        let line = &self.drawn[i].line;
+        if line.length() <= 1.5 * size[0].max(size[1]) {
+            return None;
+        }
+        let spots = (1..24).map(|part| part as f64 / 24.0);
+        let boxes = spots.map(|part| (part, Rect::around(line.at(part * line.length()).0, size[0], size[1])));
+        let fits = boxes.filter(|(_, rect)| labels.free(rect) && wanted(rect));
+        let least = fits.map(|(part, rect)| (self.covered(i, &rect) as f64 + (part - 0.5).abs(), rect));
+        let (_, rect) = least.min_by(|a, b| a.0.total_cmp(&b.0))?;
+        labels.take(rect);
+        Some(rect)
+    }
+
+    /// Whether a box covers none of these marks or lane ends.
+    fn clears(&self, rect: &Rect, places: &[At]) -> bool {
+        let around = rect.grown(MARK * self.text);
+        !places.iter().any(|at| around.holds(Rect::around(*at, 0.0, 0.0)))
+    }
+
+    /// Whether the line from a label to a lane goes over no other lane's middle.
+    fn leads_to(&self, from: At, to: At, i: usize) -> bool {
+        self.drawn.iter().enumerate().all(|(j, drawn)| j == i || !drawn.line.meets(from, to))
+    }
+
+    /// How many centre lines of other lanes a box covers.
+    fn covered(&self, i: usize, rect: &Rect) -> usize {
         let near = |drawn: &&DrawnLane| drawn.line.bounds().overlaps(&rect.grown(1.0));
         let others = self.drawn.iter().enumerate().filter(|(j, _)| *j != i).map(|(_, drawn)| drawn).filter(near);
-        let lines = others.filter(|drawn| drawn.line.crosses(rect)).count();
-        let around = rect.grown(0.3 * self.text);
-        let within = |at: At| around.holds(Rect::around(at, 0.0, 0.0));
-        let ends = self.exits().filter(|exit| within(exit.at)).count();
-        let marks = marked.iter().filter(|at| within(**at)).count();
-        lines as f64 + 2.0 * ends as f64 + 3.0 * marks as f64
+        others.filter(|drawn| drawn.line.crosses(rect)).count()
     }
 
     /// A lane's number on its plate, with a line to the lane where the plate stands beside it.

@@ -50,6 +50,14 @@ impl Line {
         self.places.windows(2).any(|ends| rect.crossed(ends[0], ends[1]))
     }
 
+    /// Whether a straight line from one place to another crosses it.
+    pub fn meets(&self, a: At, b: At) -> bool {
+        // On which side of the line from p to q a place lies.
+        let side = |p: At, q: At, r: At| (q[0] - p[0]) * (r[1] - p[1]) - (q[1] - p[1]) * (r[0] - p[0]);
+        let parted = |p: At, q: At, r: At, s: At| side(p, q, r) * side(p, q, s) < 0.0;
+        self.places.windows(2).any(|ends| parted(a, b, ends[0], ends[1]) && parted(ends[0], ends[1], a, b))
+    }
+
     /// The box around it.
     pub fn bounds(&self) -> Rect {
         let [x, y] = self.first();
@@ -95,6 +103,14 @@ mod tests {
         assert_eq!(line.at(5.0), ([3.0, 2.0], [0.0, 1.0]));
         assert_eq!(line.at(9.0), ([3.0, 4.0], [0.0, 1.0]));
         assert_eq!(line.path(), "M0 0L0 0L3 0L3 4L3 4");
+    }
+
+    #[test]
+    fn lines_that_cross() {
+        let line = Line::new(vec![[0.0, 0.0], [3.0, 0.0], [3.0, 4.0]]);
+        let pairs =
+            [([1.0, -1.0], [1.0, 1.0]), ([2.0, 2.0], [4.0, 2.0]), ([1.0, 1.0], [2.0, 2.0]), ([4.0, 0.0], [9.0, 0.0])];
+        assert_eq!(pairs.map(|(a, b)| line.meets(a, b)), [true, true, false, false]);
     }
 
     #[test]

@@ -2,7 +2,7 @@
 
 use crate::draw::frame::{At, Frame};
 use crate::draw::labels::{text_width, Labels, Rect};
-use crate::draw::lanes::{head, leader, on_plate, Lanes};
+use crate::draw::lanes::{head, leader, on_plate, Lanes, MARK};
 use crate::draw::line::{distance, path};
 use crate::geometry;
 use crate::markup::{escaped, number};
@@ -222,8 +222,10 @@ impl<'a> Pen<'a> {
                 continue;
             }
             let room = [text_width(&mark.label, size) + 0.4 * size, 1.2 * size];
-            let off_lanes = labels.beside(mark.at, room, 5, |rect| self.lanes.off_lanes(rect));
-            if let Some(plate) = off_lanes.or_else(|| labels.beside(mark.at, room, 24, |_| true)) {
+            let off_lanes = |rect: &Rect| self.lanes.off_lanes(rect);
+            let plate = labels.beside(mark.at, room, 12, |rect| off_lanes(rect) && self.leads_to(rect, mark));
+            let plate = plate.or_else(|| labels.beside(mark.at, room, 12, |rect| self.leads_to(rect, mark)));
+            if let Some(plate) = plate.or_else(|| labels.beside(mark.at, room, 24, |_| true)) {
                 leaders += &leader(plate.middle(), mark.at, mark.colour, self.text);
                 plates += &on_plate(plate, &escaped(&mark.label), mark.colour, size);
                 taken.push(plate);
@@ -231,6 +233,13 @@ impl<'a> Pen<'a> {
         }
         taken.into_iter().for_each(|plate| self.reach(plate));
         (leaders, shapes + &plates)
+    }
+
+    /// Whether the line from a label here to its mark goes through no other mark, which it would seem to name.
+    fn leads_to(&self, plate: &Rect, mark: &Mark) -> bool {
+        let size = 2.0 * MARK * self.text;
+        let mut others = self.marks.iter().filter(|other| distance(other.at, mark.at) > 0.5 * size);
+        !others.any(|other| Rect::around(other.at, size, size).crossed(plate.middle(), mark.at))
     }
 }
 

@@ -18,6 +18,15 @@ pub enum Node {
     Text(String),
 }
 
+impl Node {
+    pub fn element(&self) -> Option<&Element> {
+        match self {
+            Node::Element(element) => Some(element),
+            Node::Text(_) => None,
+        }
+    }
+}
+
 impl Element {
     pub fn attribute(&self, name: &str) -> Option<&str> {
         self.attributes.iter().find(|(key, _)| key == name).map(|(_, value)| value.as_str())
@@ -31,11 +40,8 @@ impl Element {
 
     /// It and all elements in it, in order.
     pub fn all(&self) -> Vec<&Element> {
-        let inside = self.children.iter().filter_map(|node| match node {
-            Node::Element(element) => Some(element.all()),
-            Node::Text(_) => None,
-        });
-        std::iter::once(self).chain(inside.flatten()).collect()
+        let inside = self.children.iter().filter_map(Node::element).flat_map(Element::all);
+        std::iter::once(self).chain(inside).collect()
     }
 
     pub fn named<'a>(&'a self, name: &'a str) -> impl Iterator<Item = &'a Element> {
