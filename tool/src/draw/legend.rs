@@ -16,7 +16,11 @@ pub struct Entry {
 
 /// How wide and how high the sign of an entry is.
 pub const SIGN: [f64; 2] = [64.0, 30.0];
-const TEXT: f64 = 22.0;
+const TEXT: f64 = 20.0;
+/// How wide a column of entries is.
+const COLUMN: f64 = 310.0;
+/// What lies between a sign and its words.
+const GAP: f64 = 10.0;
 /// The colour of signs that questions have in their own colours.
 const COLOUR: &str = "#0b5cad";
 
@@ -136,13 +140,28 @@ fn text_before(x: f64, base: f64, words: &str) -> String {
 
 /// The entries in three columns from this height on, and the height that they take.
 pub fn rows(entries: &[Entry], top: f64) -> (String, f64) {
-    let (column, row) = (300.0, 42.0);
+    let (left, row) = (40.0, 42.0);
     let mut out = String::new();
     for (i, entry) in entries.iter().enumerate() {
-        let (x, y) = (60.0 + column * (i % 3) as f64, top + row * (i / 3) as f64);
+        let (x, y) = (left + COLUMN * (i % 3) as f64, top + row * (i / 3) as f64);
         out += &format!("<g transform=\"translate({} {})\">\n{}", number(x), number(y), entry.sign);
-        out += &text(SIGN[0] + 10.0, 0.5 * SIGN[1], &entry.means);
+        out += &text(SIGN[0] + GAP, 0.5 * SIGN[1], &entry.means);
         out += "</g>\n";
     }
     (out, row * entries.len().div_ceil(3) as f64)
+}
+
+#[cfg(test)]
+mod tests {
+    use super::{surface, COLUMN, GAP, SIGN, TEXT};
+    use crate::draw::labels::text_width;
+    use kartsodi::records::LaneType;
+
+    #[test]
+    fn the_words_of_every_type_fit_their_column() {
+        for kind in LaneType::ALL {
+            let words = surface(kind.name(), String::new()).means;
+            assert!(SIGN[0] + GAP + text_width(&words, TEXT) < COLUMN, "{words}");
+        }
+    }
 }
