@@ -18,7 +18,7 @@ use crate::paper::{self, Answered, Paper};
 use frame::{Extent, Frame, WIDTH};
 use kartsodi::{Advance, LanePosition, Point};
 use labels::Labels;
-use lanes::{Lanes, LANE_WIDTH};
+use lanes::{Lanes, Number, LANE_WIDTH};
 use marks::{Drawn, Pen};
 
 /// The plan as an SVG document: its lanes by type with numbers and arrows, stop lines at lane ends, routes and positions.
@@ -38,6 +38,8 @@ pub struct Part {
     pub view: Rect,
     /// What goes between ground and lane numbers.
     pub lines: String,
+    /// The lanes whose numbers can be seen whole: a part of one would look like another.
+    pub numbered: Vec<usize>,
     /// What goes above them.
     pub marks: String,
 }
@@ -52,7 +54,7 @@ pub struct Drawing<'a> {
     /// Edges, surfaces, arrows, lane ends.
     pub ground: String,
     /// The lane numbers, which go above the routes.
-    pub numbers: String,
+    pub numbers: Vec<Number>,
     /// The lanes for whose numbers there is no room.
     pub unnumbered: Vec<usize>,
 }
@@ -87,17 +89,21 @@ impl<'a> Drawing<'a> {
     /// One question; none where nothing of it can be seen.
     pub fn question(&self, i: usize) -> Option<Part> {
         let drawn = self.drawn(std::iter::once(i));
-        let view = self.view(drawn.bounds?);
-        Some(Part { view, lines: drawn.lines, marks: drawn.marks })
+        let plates = || self.numbers.iter().map(|number| number.plate.grown(1.0));
+        let narrow = self.view(drawn.bounds?.grown(1.5 * self.lanes.text));
+        let cut = plates().filter(|plate| plate.overlaps(&narrow) && !narrow.holds(*plate));
+        let view = self.view(cut.fold(narrow, |view, plate| view.with(&plate)));
+        let whole = self.numbers.iter().zip(plates()).filter(|(_, plate)| view.holds(*plate));
+        let numbered = whole.map(|(number, _)| number.lane).collect();
+        Some(Part { view, lines: drawn.lines, numbered, marks: drawn.marks })
     }
 
     /// The part of the drawing around a box: not too small, so that one sees where it is, and wider than high.
     fn view(&self, bounds: Rect) -> Rect {
         let area = self.frame.area();
-        let around = bounds.grown(1.5 * self.lanes.text);
-        let width = around.width().max(around.height() / 0.75).clamp(0.5 * WIDTH, WIDTH);
-        let height = around.height().max(0.5 * width).min(area.height());
-        let [x, y] = around.middle();
+        let width = bounds.width().max(bounds.height() / 0.75).clamp(0.5 * WIDTH, WIDTH);
+        let height = bounds.height().max(0.5 * width).min(area.height());
+        let [x, y] = bounds.middle();
         let left = (x - 0.5 * width).clamp(0.0, WIDTH - width);
         let top = (y - 0.5 * height).clamp(0.0, area.height() - height);
         Rect { left, top, right: left + width, bottom: top + height }
@@ -117,7 +123,8 @@ impl<'a> Drawing<'a> {
         let drawn = self.drawn(0..self.paper.answers.len());
         let (scale, scale_height) = self.scale(self.frame.height);
         let (rows, rows_height) = legend::rows(&legend::entries(&self.lanes, &drawn), self.frame.height + scale_height);
-        let body = format!("{}{}{}{}{scale}{rows}", self.ground, drawn.lines, self.numbers, drawn.marks);
+        let numbers: String = self.numbers.iter().map(|number| number.markup.as_str()).collect();
+        let body = format!("{}{}{numbers}{}{scale}{rows}", self.ground, drawn.lines, drawn.marks);
         let mut height = self.frame.height + scale_height + rows_height;
         let left_out = match self.left_out() {
             None => String::new(),

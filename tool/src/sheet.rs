@@ -47,12 +47,14 @@ fn plan(drawing: &Drawing) -> String {
     let (scale, below) = drawing.scale(area.bottom);
     let left_out = drawing.left_out().map_or(String::new(), |words| format!("<p>{}</p>\n", escaped(&words)));
     let legend: String = drawing.legend().iter().map(legend_entry).collect();
+    let numbers = drawing.numbers.iter();
+    let numbers = numbers.map(|number| format!("<g id=\"lane-{}\">\n{}</g>\n", number.lane, number.markup));
     format!(
         "<figure class=\"plan\">\n{}<g id=\"ground\">\n{}</g>\n<g id=\"numbers\">\n{}</g>\n{scale}</svg>\n\
          <figcaption>\n{left_out}<ul class=\"legend\">\n{legend}</ul>\n</figcaption>\n</figure>\n",
         picture("The plan, with the numbers of its lanes", Rect { bottom: area.bottom + below, ..area }),
         drawing.ground,
-        drawing.numbers,
+        numbers.collect::<String>(),
     )
 }
 
@@ -103,10 +105,12 @@ fn is_refused(answered: &Answered) -> bool {
 /// The picture of a question, where there is something of it to be seen.
 fn question_picture(drawing: &Drawing, i: usize) -> Option<String> {
     let part = drawing.question(i)?;
+    let numbers = part.numbered.iter().map(|lane| format!("<use href=\"#lane-{lane}\"/>\n"));
     Some(format!(
-        "<figure>\n{}<use href=\"#ground\"/>\n{}<use href=\"#numbers\"/>\n{}</svg>\n</figure>\n",
+        "<figure>\n{}<use href=\"#ground\"/>\n{}{}{}</svg>\n</figure>\n",
         picture(&format!("Question {} in the plan", i + 1), part.view),
         part.lines,
+        numbers.collect::<String>(),
         part.marks
     ))
 }

@@ -181,7 +181,13 @@ fn assert_questions_apart(page: &Element) {
     let numbers = all.iter().find(|element| element.attribute("id") == Some("numbers"));
     for picture in page.named("section").flat_map(|section| section.named("svg").collect::<Vec<_>>()) {
         let mut together = labels(picture);
+        for number in picture.named("use").filter_map(|part| part.attribute("href")?.strip_prefix("#lane-")) {
+            let id = format!("lane-{number}");
+            let lane = all.iter().find(|element| element.attribute("id") == Some(&id)).expect("a number");
+            together.extend(labels(lane));
+        }
         assert_inside(picture, &together);
+        let mut together = labels(picture);
         together.extend(numbers.map_or(Vec::new(), |numbers| labels(numbers)));
         assert_apart(&together);
     }

@@ -33,6 +33,13 @@ struct Exit {
     goes_on: bool,
 }
 
+/// A lane's number as it is drawn: its plate, and the markup of it.
+pub struct Number {
+    pub lane: usize,
+    pub plate: Rect,
+    pub markup: String,
+}
+
 /// The lanes of a plan in a frame, and the sizes that they are drawn with.
 pub struct Lanes<'a> {
     pub drawn: Vec<DrawnLane<'a>>,
@@ -123,22 +130,22 @@ impl<'a> Lanes<'a> {
 
     /// The number of each lane on a plate, and the lanes for whose number there is no room. Each plate is taken among the labels, and covers none of
     /// the marks where it can go elsewhere. Short lanes come first, since they have the fewest places.
-    pub fn numbers(&self, labels: &mut Labels, marked: &[At]) -> (String, Vec<usize>) {
+    pub fn numbers(&self, labels: &mut Labels, marked: &[At]) -> (Vec<Number>, Vec<usize>) {
         let mut order: Vec<usize> = (0..self.drawn.len()).collect();
         order.sort_by(|a, b| self.drawn[*a].line.length().total_cmp(&self.drawn[*b].line.length()));
         let mut plates: Vec<Option<Rect>> = vec![None; self.drawn.len()];
         for i in order {
             plates[i] = self.plate(i, labels, marked);
         }
-        let mut out = String::new();
-        let mut left_out = Vec::new();
+        let (mut numbers, mut left_out) = (Vec::new(), Vec::new());
         for (drawn, plate) in self.drawn.iter().zip(plates) {
+            let lane = drawn.lane.lane.0;
             match plate {
-                Some(plate) => out += &self.numbered(drawn, plate),
-                None => left_out.push(drawn.lane.lane.0),
+                Some(plate) => numbers.push(Number { lane, plate, markup: self.numbered(drawn, plate) }),
+                None => left_out.push(lane),
             }
         }
-        (out, left_out)
+        (numbers, left_out)
     }
 
     /// The free box for a lane's number: on the lane, or beside it and off all lanes where only there it covers no lane end, or else anywhere beside it.
