@@ -103,7 +103,7 @@ fn labels(root: &Element) -> Vec<Label> {
     labels.collect()
 }
 
-/// A label's text fits on its plate, by the widths of Helvetica's bold letters, which are wider than its others.
+/// A label's text fits on its plate, by the widths of Helvetica's bold letters, which are wider than its others, and of DejaVu's bold digits.
 fn assert_fits(label: &Label, size: f64) {
     let width: f64 = label.text.chars().map(|c| size * bold_width(c) / 1000.0).sum();
     assert!(width < label.plate[2] - label.plate[0], "{}", label.text);
@@ -116,7 +116,8 @@ fn bold_width(c: char) -> f64 {
         'f' | 't' | '(' | ')' | '-' => 333.0,
         'r' => 389.0,
         'z' => 500.0,
-        '0'..='9' | 'a' | 'c' | 'e' | 'k' | 's' | 'v' | 'x' | 'y' => 556.0,
+        '0'..='9' => 696.0,
+        'a' | 'c' | 'e' | 'k' | 's' | 'v' | 'x' | 'y' => 556.0,
         'w' | 'O' => 778.0,
         'm' => 889.0,
         'A'..='Z' => 722.0,
