@@ -173,13 +173,8 @@ pub fn advance(
         (advance_rows (tables_of plan.now) bounds.now from distance rows.old positions.old) }
 {
     let lanes = plan.lanes;
-    // `let .. else`: after `.ok_or(..)?` the goals have weaker facts
-    let Some(i) = plan_find::find_lane(from.lane, lanes.rows, lanes.count) else {
-        return Err(Refusal::NotOnALane);
-    };
-    let Some(p) = plan.place(i) else {
-        return Err(Refusal::NotOnALane);
-    };
+    let i = plan_find::find_lane(from.lane, lanes.rows, lanes.count).ok_or(Refusal::NotOnALane)?;
+    let p = plan.place(i).ok_or(Refusal::NotOnALane)?;
     if !beside::is_in_section(bounds, plan.section(i, p), from.s) {
         return Err(Refusal::NotOnALane);
     }
