@@ -1,42 +1,16 @@
--- The steps of the code: the tests, the search for the next number, and the answer.
-use Rattle.std.specs.Prelude.{◌≡◌, Bool, true, false, cond, ◌&&◌, List, ℕ, zero, suc, refl, ◌+◌, ◌<◌, ◌≤◌, Float}
+-- The steps of the code: the search for the next number, the answer from a lane's row, and the sides by their numbers.
+use Rattle.std.specs.Prelude.{◌≡◌, Bool, true, false, cond, List, ℕ, zero, suc, refl, ◌+◌, ◌<◌, ◌≤◌, Float}
 use Rattle.std.proofs.Common.{sym, ◌∙◌, add-one, arith}
 use Rattle.std.proofs.Math.Path.{ap}
-use Rattle.std.specs.Float.Ieee.{le}
-use borrow.Author.Tests.{lt-ltb, le-ltb, lt-leb, le-leb, eq-eqb, ne_eqb}
+use borrow.Author.Tests.{lt-ltb, le-ltb, ne_eqb}
 use Rattle.beside.specs.declared.LanePosition.{LanePosition}
 use Rattle.beside.specs.declared.BesideAnswer.{BesideAnswer}
 use Rattle.plan_find.specs.FirstRow.{first_row, is_lane}
-use Rattle.rows.specs.Rows.{direction_of, place_of, placed_lane, placed_section, raised_number, start_of, end_of}
+use Rattle.rows.specs.Rows.{direction_of, place_of, placed_lane, placed_section, raised_number}
 use Rattle.beside.specs.declared.Direction.{Direction}
 use Rattle.beside.specs.declared.Side.{Side}
 use Rattle.beside.specs.Sides.{direction_at, direction_number, side_at, side_number}
-use Rattle.beside.specs.Beside.{beyond, toward_larger, nearer_at, next_row, in_section, refusal, center_at, beside_row, beside_rows}
-
--- ---- the tests
-module _ (bounds : List Float) (j : ℕ) (s : Float) where
-  pub from_start : le (start_of bounds j) s ≡ true → le s (end_of bounds j) ≡ in_section bounds j s
-  from_start e = sym (ap (λ (b : Bool). b && le s (end_of bounds j)) e)
-
-  pub before_start : le (start_of bounds j) s ≡ false → false ≡ in_section bounds j s
-  before_start e = sym (ap (λ (b : Bool). b && le s (end_of bounds j)) e)
-
-module _ (places : List ℕ) (m j here : ℕ) (larger : Bool) (best k : ℕ) where
-  pub elsewhere : (placed_section places k ≡ j → ⊥) → false ≡ nearer_at places m j here larger best k
-  elsewhere e = sym (rw (ne_eqb (placed_section places k) j e))
-
-  module _ (same : placed_section places k ≡ j) where
-    pub not_past : (b : Bool) → b ≡ beyond larger here (raised_number places k) → b ≡ false
-        → false ≡ nearer_at places m j here larger best k
-    not_past b e f = sym (rw (eq-eqb (placed_section places k) j same, ← e, f))
-
-    module _ (b : Bool) (is : b ≡ beyond larger here (raised_number places k)) (past : b ≡ true) where
-      pub first_past : m ≤ best → true ≡ nearer_at places m j here larger best k
-      first_past h = sym (rw (eq-eqb (placed_section places k) j same, ← is, past, le-leb m best h))
-
-      pub between : best < m
-          → beyond larger (raised_number places k) (raised_number places best) ≡ nearer_at places m j here larger best k
-      between h = sym (rw (eq-eqb (placed_section places k) j same, ← is, past, lt-leb m best h))
+use Rattle.beside.specs.Beside.{toward_larger, nearer_at, next_row, in_section, refusal, center_at, beside_row, beside_rows}
 
 -- ---- the search for the next number
 module _ (places : List ℕ) (m j here : ℕ) (larger : Bool) where

@@ -167,6 +167,7 @@ impl Seats<'_> {
 
     // The place next to the number `here` in section j, toward the larger numbers or the smaller. Not by `fold`, whose closure would have this `if`
     // and both facts of `best` in its own clauses, nor by `min_by`, whose order would turn with `larger`.
+    #[tactic(auto, unfolding(crate::specs::Beside::next_row), using(crate::specs::BesideLaws::next_nearer, crate::specs::BesideLaws::next_same))]
     fn next_row(&self, j: usize, here: usize, larger: bool) -> Option<usize>
         ensures is { unwrap_or result 256 ≡ next_row self.now.places.now self.now.place_count j here larger self.now.place_count }
         ensures within { IfSome result (λ r. r < self.now.place_count) }
@@ -181,26 +182,23 @@ impl Seats<'_> {
     }
 
     // The lane beside `at`'s, at the same s and at its center.
+    #[tactic(auto, unfolding(crate::specs::Beside::beside_rows, crate::specs::Beside::beside_row), using(crate::specs::BesideLaws::toward_at))]
     fn lane_beside(&self, at: LanePosition, side: Side) -> Result<LanePosition, Refusal>
         ensures { answer_of result ≡ beside_rows self.now.lanes.now self.now.lane_count self.now.fans.now self.now.places.now
             self.now.place_count self.now.bounds.now at (side_number side) }
     {
         let lanes = self.lanes;
         let places = self.places;
-        let Some(i) = plan_find::find_lane(at.lane, lanes, self.lane_count) else {
-            return Err(Refusal::NotOnALane);
-        };
-        let Some(p) = place_row(self.fans, self.place_count, i) else {
-            return Err(Refusal::NotOnALane);
-        };
+        let i = plan_find::find_lane(at.lane, lanes, self.lane_count).ok_or(Refusal::NotOnALane)?;
+        let p = place_row(self.fans, self.place_count, i).ok_or(Refusal::NotOnALane)?;
         let j = places[3 * p + 1];
         if !is_in_section(self.bounds, j, at.s) {
             return Err(Refusal::NotOnALane);
         }
         let larger = is_toward_larger(Direction::from(lanes[6 * i + 2]), side);
-        let Some(r) = self.next_row(j, places[3 * p + 2], larger) else {
-            return Err(Refusal::NoneBeside);
-        };
+        let r = self
+            .next_row(j, places[3 * p + 2], larger)
+            .ok_or(Refusal::NoneBeside)?;
         let there = places[3 * r];
         Ok(LanePosition {
             lane: LaneId(lanes[6 * there]),
@@ -211,6 +209,7 @@ impl Seats<'_> {
 }
 
 // The lane beside `at`'s, at the same s and at its center: 0 for the left of its traffic, 1 for the right; a number, as C has it.
+#[tactic(auto, using(crate::specs::BesideLaws::beside_at))]
 pub fn beside(seats: Seats, at: LanePosition, side: usize) -> Result<LanePosition, Refusal>
     ensures { answer_of result ≡ beside_rows seats.entry.lanes.now seats.entry.lane_count seats.entry.fans.now seats.entry.places.now
         seats.entry.place_count seats.entry.bounds.now at side }
