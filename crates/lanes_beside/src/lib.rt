@@ -8,11 +8,12 @@ ghost use Rattle.beside.specs.Beside.{answer_of, beside_rows};
 ghost use Rattle.beside.specs.InPlan.{beside_of};
 ghost use Rattle.lanes_beside.specs.Beside.{BesideFronts, centerline};
 
-use beside::{LanePosition, Seats, Side};
+use beside::{LanePosition, Seats};
 use plan_format::{Counts, LaneId, Refusal};
 use tables::open;
 
 // The lane beside from the front of each table, for a plan with these counts.
+// The tables one by one, as the call has them: a struct here would be made for one use.
 fn beside_from<'a>(
     at: LanePosition,
     side: usize,
@@ -35,14 +36,12 @@ fn beside_from<'a>(
         place_count: counts.places,
         bounds: &bounds[..2 * counts.sections],
     };
-    match Side::from(side) {
-        Side::Left => beside::left_of(seats, at),
-        Side::Right => beside::right_of(seats, at),
-    }
+    beside::beside(seats, at, side)
 }
 
 // The lane beside a position at s on a lane: side 0 for the left of its traffic, 1 for the right. Numbers 1 to 8, where 5 is also another side;
 // 12 and 15. The tables come one by one, as C lends them.
+#[tactic(auto, using(calling::specs::Calling::calls_refused))]
 pub fn beside(
     file: &[u8],
     lane: LaneId,
