@@ -71,7 +71,7 @@ impl Start {
     }
 
     // Puts the first branches in flight: one with the traffic of the lane, or one each way, of which that up the centerline is taken first.
-    #[tactic(auto, unfolding(crate::specs::Advance::first_branches), using(branches::specs::BranchLaws::both_at, branches::specs::BranchLaws::forward_at))]
+    #[tactic(auto, unfolding(crate::specs::Advance::first_branches))]
     fn put(self, front: &mut Front, lanes: &Lanes, ahead: bool)
         requires { (self.lane < lanes.now.count) × (front.old.todo.items ≡ []) }
         ensures first { reverse front.new.todo.items
