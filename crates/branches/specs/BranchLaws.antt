@@ -7,7 +7,7 @@ use Rattle.std.proofs.Math.Dec.{ltb}
 use borrow.Author.Tests.{ltb-true, lt-ltb, le-ltb}
 use Rattle.coords.specs.Coords.{zero⁺}
 use Rattle.beside.specs.Sides.{direction_at}
-use Rattle.beside.specs.declared.Direction.TheVariants.{Forward, Backward, Both}
+use Rattle.beside.specs.declared.Direction.TheVariants.{Forward, Backward}
 use Rattle.rows.specs.Rows.{direction_of, length_of}
 use Rattle.branches.specs.declared.Branch.{Branch}
 use Rattle.branches.specs.declared.Leaving.{Leaving}
@@ -37,12 +37,6 @@ backward_at zero e = cc
 backward_at (suc zero) e = refl
 backward_at (suc (suc zero)) e = cc
 backward_at (suc (suc (suc n))) e = cc
-
-pub both_at : (n : ℕ) → direction_at n ≡ Both → n ≡ 2
-both_at zero e = cc
-both_at (suc zero) e = cc
-both_at (suc (suc zero)) e = refl
-both_at (suc (suc (suc n))) e = cc
 
 -- ---- the branch that enters a lane
 module _ (lanes : List ℕ) (points cumulative : List Float) (ahead : Bool) (l : Leaving) (next : ℕ) (up : Bool)

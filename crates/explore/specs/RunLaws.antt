@@ -7,7 +7,7 @@ use Prim.Native.Nat.{ℕ, zero, suc, ◌+◌, ◌-◌, ◌<◌, ◌≤◌}
 use Rattle.std.specs.Float.{binary64}
 use Rattle.std.specs.Float.Ieee.{sub, lt}
 use Rattle.coords.specs.declared.Point.{Point}
-use Rattle.rows.specs.Rows.{length_of, first_link, successors, predecessors}
+use Rattle.rows.specs.Rows.{length_of}
 use Rattle.branches.specs.declared.Branch.{Branch}
 use Rattle.branches.specs.declared.Leaving.{Leaving}
 use Rattle.branches.specs.Tables.{Tables, led_to}
