@@ -65,6 +65,7 @@ fn advance_from<'a>(
 
 // Every place `distance` metres on from a position along the lanes: a row of case and lane, and one of s, offset and metres short, for each.
 // Numbers 1 to 8, 12, 13 and 14. The tables come one by one, as C lends them.
+#[tactic(auto, using(calling::specs::Calling::calls_refused))]
 pub fn advance(
     file: &[u8],
     lane: LaneId,
