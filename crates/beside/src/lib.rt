@@ -209,12 +209,14 @@ impl Seats<'_> {
 }
 
 // The lane beside `at`'s, at the same s and at its center: 0 for the left of its traffic, 1 for the right; a number, as C has it.
-#[tactic(auto, using(crate::specs::BesideLaws::beside_at))]
 pub fn beside(seats: Seats, at: LanePosition, side: usize) -> Result<LanePosition, Refusal>
     ensures { answer_of result ≡ beside_rows seats.entry.lanes.now seats.entry.lane_count seats.entry.fans.now seats.entry.places.now
         seats.entry.place_count seats.entry.bounds.now at side }
 {
-    seats.lane_beside(at, Side::from(side))
+    match Side::from(side) {
+        Side::Left => left_of(seats, at),
+        Side::Right => right_of(seats, at),
+    }
 }
 
 // The lane on the left of `at`'s traffic, by the Rust's name.
