@@ -2,12 +2,8 @@
 use Rattle.std.proofs.Common.{arith, ◌∙◌}
 use Rattle.std.specs.Prelude.{None}
 use Rattle.std.proofs.lemmas.List.{length-replicate}
-use Rattle.lists.specs.Filling.{fill_start}
-use Rattle.nearest.proofs.Asking.{answered_all, answered_next, asked, may_ask}
+use Rattle.nearest.proofs.Asking.{answered_next, asked, may_ask}
 use Rattle.nearest.proofs.Lanes.nearest_rows.Goals as goal
-
-pub loop-i-init : goal.loop-i-init
-loop-i-init g c = fill_start _ _ _
 
 pub invariant_of-spans : goal.invariant_of-spans
 invariant_of-spans g c =
@@ -22,8 +18,3 @@ loop-i-preserved g c =
     answered_next _ _ _ _ _ l.found l.i _ _ (omega arith) (length-replicate g.row.N None ∙ (omega arith))
     (asked _ _ _ _ s.searchable _ _ _ _ _ _ _ c.driving-index.ensures (omega arith) (omega arith) (omega arith) _ _ c.nearest_lane.ensures)
     l.invariant
-
-pub returns : goal.returns
-returns g c =
-    let l = c.loop-i in
-    answered_all _ _ _ _ _ l.found l.i (omega arith) (length-replicate g.row.N None ∙ (omega arith)) l.invariant
