@@ -51,6 +51,9 @@ fn main() -> ExitCode {
 }
 
 fn run(job: &Job) -> Result<(), Failure> {
+    if let Some(to) = job.output.as_deref().filter(|to| streams::is_source(to, &job.source)) {
+        return Err(Failure::Use(format!("{} is what is read: -o names another file", to.display())));
+    }
     match job.command {
         Command::Make => make(job),
         Command::Show => show(job),

@@ -4,6 +4,7 @@ use crate::args::Source;
 use crate::failure::Failure;
 use std::fs::{self, File};
 use std::io::{self, IsTerminal, Read, Write};
+use std::os::unix::fs::MetadataExt;
 use std::path::Path;
 use std::sync::atomic::{AtomicBool, Ordering};
 
@@ -48,6 +49,16 @@ pub fn read(source: &Source) -> Result<Vec<u8>, Failure> {
         return Err(Failure::refused(format!("{name} is longer than {MOST} bytes: it is no plan and no text of one")));
     }
     Ok(bytes)
+}
+
+/// Whether a file to write is the one that is read: then what was read would be lost.
+pub fn is_source(to: &Path, source: &Source) -> bool {
+    let from = match source {
+        Source::File(path) => path,
+        Source::Input => Path::new("/dev/stdin"),
+    };
+    let file = |path| fs::metadata(path).ok().filter(fs::Metadata::is_file).map(|file| (file.dev(), file.ino()));
+    file(from).is_some() && file(from) == file(to)
 }
 
 /// Whether standard input is a terminal, where a reader would seem to hang.

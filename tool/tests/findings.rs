@@ -61,6 +61,28 @@ fn finding_1_a_refused_plan_leaves_no_page() {
         .contains("cannot be written: is a directory"));
 }
 
+/// Nor is what is read written over, by its name, by a link to it or through standard input.
+#[test]
+fn finding_1_what_is_read_stays() {
+    let folder = std::env::temp_dir().join(format!("kartsodi-own-{}", std::process::id()));
+    std::fs::create_dir_all(&folder).unwrap();
+    let (text, link) = (folder.join("my.txt"), folder.join("link.txt"));
+    std::fs::write(&text, TWO_LANES).unwrap();
+    std::os::unix::fs::symlink(&text, &link).unwrap();
+    let (text, link) = (text.to_str().unwrap(), link.to_str().unwrap());
+    for command in ["make", "answer", "draw", "sheet"] {
+        for line in
+            [format!("'{text}' -o '{text}'"), format!("'{text}' -o '{link}'"), format!("-o '{text}' < '{link}'")]
+        {
+            let ran = shell(&format!("$K {command} {line}"));
+            assert_eq!((ran.status, ran.text().as_str()), (2, ""), "{command} {line}");
+            assert!(ran.err.contains("is what is read: -o names another file"), "{}", ran.err);
+            assert_eq!(std::fs::read_to_string(text).unwrap(), TWO_LANES, "{command} {line}");
+        }
+    }
+    std::fs::remove_dir_all(&folder).unwrap();
+}
+
 /// A plan that the library refuses is not written either.
 #[test]
 fn finding_1_a_refused_plan_is_not_written() {
