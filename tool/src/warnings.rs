@@ -175,7 +175,9 @@ impl<'a> Drawing<'a> {
             return Some(format!("lanes {} and {} are neighbours and {} m apart", a.0, b.0, metres(off)));
         }
         let section = |lane| self.places.get(&lane).map(|place| (place.road, place.index));
-        let opposed = section(a).is_some() && section(a) == section(b) && one.direction != other.direction;
+        let as_placed = section(a).is_some() && section(a) == section(b) && one.direction != other.direction;
+        let as_drawn = || way(one).iter().zip(way(other)).map(|(a, b)| a * b).sum::<f64>() < 0.0;
+        let opposed = as_placed || as_drawn();
         opposed.then(|| format!("lanes {} and {} are neighbours, and traffic on them goes different ways", a.0, b.0))
     }
 
@@ -226,6 +228,17 @@ fn ends(lane: &Lane, last: bool, first: bool) -> Vec<Point> {
     last.into_iter().chain(lane.points.first().filter(|_| first)).copied().collect()
 }
 
+/// The way of a lane's traffic from its one end to its other; no way where it goes both ways.
+fn way(lane: &Lane) -> [f64; 3] {
+    let [Some(from), Some(to)] = [lane.points.first(), lane.points.last()] else { return [0.0; 3] };
+    let sign = match lane.direction {
+        Direction::Forward => 1.0,
+        Direction::Backward => -1.0,
+        Direction::Both => 0.0,
+    };
+    [(from.x, to.x), (from.y, to.y), (from.z, to.z)].map(|(a, b)| sign * (f64::from(b) - f64::from(a)))
+}
+
 /// A lane that does not begin where the one before it ends.
 fn gap(before: &Lane, after: &Lane) -> Option<String> {
     let least = |from: &[Point], to: &[Point]| {
@@ -234,7 +247,7 @@ fn gap(before: &Lane, after: &Lane) -> Option<String> {
     };
     let gap = least(&exits(before), &entries(after));
     let (a, b) = (before.lane.0, after.lane.0);
-    let other = least(&ends(before, true, true), &ends(after, true, true)) <= GAP;
+    let other = a != b && least(&ends(before, true, true), &ends(after, true, true)) <= GAP;
     let meant =
         if other { "; other ends of them meet: is a lane's direction or the order of its points wrong?" } else { "" };
     (gap > GAP).then(|| format!("lane {a} ends {} m from where lane {b} begins{meant}", metres(gap)))

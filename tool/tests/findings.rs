@@ -134,6 +134,9 @@ fn finding_3_reversed_points() {
         "line 3: lane 1 ends 8.000 m from where lane 2 begins; \
          other ends of them meet: is a lane's direction or the order of its points wrong?"
     );
+    // Of a link from a lane to itself, no order of its points is right.
+    let own = "lane 1 driving forward 0 0 0 8 0 0\nlink 1 successor 1\nlink 1 predecessor 1\n";
+    assert_eq!(warned(own)[0], "line 2: lane 1 ends 8.000 m from where lane 1 begins");
     // The same points are right where the traffic goes against them.
     assert_eq!(warned(&reversed.replace("2 driving forward", "2 driving backward")), [""; 0]);
     assert_eq!(warned(&reversed.replace("2 driving forward", "2 driving both")), [""; 0]);
@@ -173,6 +176,26 @@ fn finding_3_links_are_not_mirrored() {
     assert!(page.contains("reached: lane 1, station 2.000"), "{page}");
     let aside = "lane 1 driving forward 0 0 0 8 0 0\nlane 2 driving forward 0 3 0 8 3 0\nlink 1 neighbour 2\n";
     assert_eq!(warned(aside), ["line 3: there is no `link 2 neighbour 1`: no route changes back"]);
+}
+
+/// Neighbours that go different ways, without places, by points and direction.
+#[test]
+fn finding_3_neighbours_that_go_different_ways() {
+    let two = |other: &str| {
+        format!("lane 1 driving forward 0 0 0 40 0 0\nlane 2 driving {other}\nlink 1 neighbour 2\nlink 2 neighbour 1\n")
+    };
+    let warnings = [
+        "line 3: lanes 1 and 2 are neighbours, and traffic on them goes different ways",
+        "line 4: lanes 2 and 1 are neighbours, and traffic on them goes different ways",
+    ];
+    assert_eq!(warned(&two("backward 0 3.5 0 40 3.5 0")), warnings);
+    assert_eq!(warned(&two("forward 40 3.5 0 0 3.5 0")), warnings);
+    for right in ["forward 0 3.5 0 40 3.5 0", "backward 40 3.5 0 0 3.5 0", "both 0 3.5 0 40 3.5 0"] {
+        assert_eq!(warned(&two(right)), [""; 0], "{right}");
+    }
+    // The library changes lanes all the same.
+    let page = answered(&format!("{}route 10 0 0  5 3.5 0\n", two("backward 0 3.5 0 40 3.5 0")));
+    assert!(page.contains("   lanes 1, 2; cost 30.000;"), "{page}");
 }
 
 #[test]
