@@ -44,6 +44,8 @@ pub struct Snap {
     pub metres: f64,
     /// The lane that is nearer, where there is one that no route starts or ends on: its number, its type, and how far it is.
     pub nearer: Option<(LaneId, LaneType, f64)>,
+    /// The other driving lanes that are as near, to the millimetre.
+    pub level: Vec<LaneId>,
 }
 
 /// Beyond this many metres a point is said not to lie on the lane that it is taken to.
@@ -90,7 +92,9 @@ impl Snap {
         let others = lanes(records).filter(|lane| !lane.kind.drives());
         let others = others.map(|lane| (lane.lane, lane.kind, off(lane)));
         let nearer = others.filter(|other| other.2 < metres).min_by(|a, b| a.2.total_cmp(&b.2));
-        Some(Snap { nearest, metres, nearer })
+        let driving = lanes(records).filter(|lane| lane.kind.drives() && lane.lane != nearest.lane);
+        let level = driving.filter(|lane| off(lane) < metres + 0.001).map(|lane| lane.lane).collect();
+        Some(Snap { nearest, metres, nearer, level })
     }
 }
 

@@ -62,10 +62,9 @@ fn question(paper: &Paper, answered: &Answered) -> Vec<String> {
 /// A point of a route that does not lie on the lane that it is taken to.
 fn snap(end: &str, snap: &Snap) -> Option<String> {
     let taken = format!("the {end} is taken to lane {}, which is {} m away", snap.nearest.lane.0, metres(snap.metres));
-    match &snap.nearer {
-        Some((lane, kind, off)) => Some(format!("{taken}; {}", nearer_words(*lane, *kind, *off))),
-        None => (snap.metres > OFF_LANE).then_some(taken),
-    }
+    let nearer = snap.nearer.map(|(lane, kind, off)| nearer_words(lane, kind, off));
+    let why: Vec<String> = nearer.into_iter().chain(words::level_words(snap)).collect();
+    (snap.metres > OFF_LANE || !why.is_empty()).then(|| [vec![taken], why].concat().join("; "))
 }
 
 /// A plan's records by what they are about.

@@ -135,9 +135,16 @@ fn snap_words(snap: &Snap) -> String {
     } else {
         format!("on lane {lane}, {s} m along its points, {off} m off")
     };
-    match &snap.nearer {
-        Some((lane, kind, metres)) => format!("{taken}; {}", nearer_words(*lane, *kind, *metres)),
-        None => taken,
+    let nearer = snap.nearer.map(|(lane, kind, metres)| nearer_words(lane, kind, metres));
+    [Some(taken), nearer, level_words(snap)].into_iter().flatten().collect::<Vec<_>>().join("; ")
+}
+
+/// The driving lanes that a point lies as near to as to the one that it was taken to.
+pub fn level_words(snap: &Snap) -> Option<String> {
+    match snap.level[..] {
+        [] => None,
+        [one] => Some(format!("lane {} is as near", one.0)),
+        _ => Some(format!("lanes {} are as near", chain(&snap.level))),
     }
 }
 

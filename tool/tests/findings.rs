@@ -326,6 +326,22 @@ fn finding_4_a_point_on_a_bus_lane() {
     );
 }
 
+/// At a stop line several lanes begin and end: the library takes the one that is written first.
+#[test]
+fn finding_4_a_point_as_near_to_other_lanes() {
+    let text = format!("{TWO_LANES}lane 3 driving forward 8 0 0 16 4 0\nroute 2 0 0  8 0 0\nroute 8 3 0  8 0 0\n");
+    let page = answered(&text);
+    assert!(page.contains("   start: on lane 1, 2.000 m along its points, 0.000 m off\n"), "{page}");
+    assert!(
+        page.contains("   goal: on lane 1, 8.000 m along its points, 0.000 m off; lanes 2, 3 are as near\n"),
+        "{page}"
+    );
+    let goal = "the goal is taken to lane 1, which is 0.000 m away; lanes 2, 3 are as near";
+    assert!(warned(&text).contains(&format!("line 6: {goal}")), "{:?}", warned(&text));
+    let between = "lane 5 driving forward 0 3 0 50 3 0\nlane 2 driving forward 0 -3 0 50 -3 0\nroute 5 0 0 45 3 0\n";
+    assert_eq!(warned(between), ["line 3: the start is taken to lane 5, which is 3.000 m away; lane 2 is as near"]);
+}
+
 /// A plan of 196 lines: 64 lanes with their places, 64 links, and the sections.
 fn many() -> String {
     let lanes: String =
