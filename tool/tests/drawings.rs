@@ -327,6 +327,15 @@ fn the_pages_of_the_examples() {
         assert_eq!(said, refused.count(), "{name}");
         let printed = shell(&format!("sha256sum {}", path(&format!("examples/{name}.plan")).display())).done_text();
         assert!(text.contains(&printed[..64]), "{name}");
+        let version = run(&["--version"], b"").done_text();
+        assert!(text.contains(&version.trim().replace(' ', ", version ")), "{name}");
+        // Each question and each part of its answer, as `answer` prints them, but for capital letters.
+        let shown = text.to_lowercase();
+        let answered = run(&["answer"], &plan).done_text();
+        let lines = answered.lines().skip(1).map(str::trim).filter(|line| !line.is_empty() && !line.starts_with('('));
+        for line in lines.filter(|line| *line != "points:") {
+            assert!(shown.contains(&line.to_lowercase()), "{name}: {line}");
+        }
     }
 }
 

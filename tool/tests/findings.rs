@@ -298,6 +298,24 @@ route 2 0 0  20 0 0
     assert!(page.contains("   lanes 1, 3, 4; cost 18.000;") && !page.contains("note"), "{page}");
 }
 
+/// Where two lanes are linked both as successor and as neighbour, the cheaper counts, and is what is said.
+#[test]
+fn a_step_of_two_links_costs_the_cheaper() {
+    let text = |metres: u8| {
+        format!(
+            "lane 1 driving forward 0 0 0 {metres} 0 0\nlane 2 driving forward {metres} 0 0 80 0 0\n\
+             link 1 successor 2\nlink 1 neighbour 2\nroute 2 0 0 70 0 0\n"
+        )
+    };
+    let page = answered(&text(8));
+    assert!(page.contains("cost 8.000;") && page.contains("   cost: 8.000 for lane 1;"), "{page}");
+    let page = answered(&text(40));
+    assert!(
+        page.contains("cost 30.000;") && page.contains("   cost: 30 for the change from lane 1 to lane 2;"),
+        "{page}"
+    );
+}
+
 /// A bus lane beside two driving lanes.
 const BUS: &str = "\
 lane 1 driving forward  0 0 0  8 0 0
