@@ -41,6 +41,14 @@ impl Source {
             Source::File(path) => path.display().to_string(),
         }
     }
+
+    /// The name that its page has where no title is given: of a file, without the folders that it lies in.
+    pub fn title(&self) -> String {
+        match self {
+            Source::File(path) => path.file_name().map_or_else(|| self.name(), |name| name.to_string_lossy().into()),
+            Source::Input => "Junction plan".into(),
+        }
+    }
 }
 
 #[derive(Debug, Clone, Copy, PartialEq, Eq)]
@@ -95,13 +103,19 @@ pub fn parse(words: impl IntoIterator<Item = OsString>) -> Result<Asked, Failure
     let first =
         words.next().ok_or_else(|| Failure::Use(format!("no command was given\n\n{}", help(None).trim_end())))?;
     match first.to_str() {
-        Some("--help" | "-h" | "help") => return Ok(Asked::Help(None)),
+        Some("--help" | "-h" | "help") => {
+            return words.next().map_or(Ok(Asked::Help(None)), |of| Ok(Asked::Help(Some(command(&of)?))))
+        }
         Some("--version" | "-V") => return Ok(Asked::Version),
         _ => {}
     }
-    let command = Command::ALL.into_iter().find(|command| first == *command.name());
-    let unknown = || format!("there is no command '{}': kartsodi --help lists them", first.to_string_lossy());
-    parse_job(command.ok_or_else(|| Failure::Use(unknown()))?, words)
+    parse_job(command(&first)?, words)
+}
+
+/// The command of this name.
+fn command(name: &OsStr) -> Result<Command, Failure> {
+    let unknown = || format!("there is no command '{}': kartsodi --help lists them", name.to_string_lossy());
+    Command::ALL.into_iter().find(|command| name == command.name()).ok_or_else(|| Failure::Use(unknown()))
 }
 
 /// The options and the file of a command.
@@ -196,13 +210,14 @@ mod tests {
             let name = command.name();
             assert_eq!(of(&format!("{name} my.plan --help")), Ok(Asked::Help(Some(command))));
             assert_eq!(of(&format!("{name} --version")), Ok(Asked::Version));
+            assert_eq!(of(&format!("help {name}")), Ok(Asked::Help(Some(command))));
         }
     }
 
     #[test]
     fn wrong_use_is_told() {
         for line in
-            ["", "maek x", "make --bits x", "make x y", "show --text x", "answer -o", "answer --text --plan x", "-x"]
+            ["", "maek x", "make --bits x", "make x y", "show --text x", "answer -o", "answer --text --plan x", "-x", "help maek"]
         {
             assert!(matches!(of(line), Err(Failure::Use(_))), "{line}");
         }

@@ -62,8 +62,8 @@ fn run(job: &Job) -> Result<(), Failure> {
         Command::Draw => write(job, draw::svg(&open(&read(job)?)?)),
         Command::Sheet => {
             let input = read(job)?;
-            let title = job.title.as_ref().unwrap_or(&input.name);
-            write(job, sheet::html(&open(&input)?, title))
+            let title = job.title.clone().unwrap_or_else(|| job.source.title());
+            write(job, sheet::html(&open(&input)?, &title))
         }
     }
 }

@@ -130,8 +130,8 @@ fn capital(words: &str) -> String {
 /// What the page was made of, and by what: enough to make it again and compare.
 fn origin(paper: &Paper) -> String {
     format!(
-        "<p class=\"origin\">Made of a plan file of {} bytes with the SHA-256 <code>{}</code> by kartsodi, version {VERSION}. Every answer is that of \
-         the proved library of this version. Metres are rounded to the millimetre; <code>kartsodi answer --bits</code> prints the exact bits.</p>\n",
+        "<p class=\"origin\">Made of a plan file of {} bytes with the SHA-256 <code>{}</code> by kartsodi, version {VERSION}. Every answer is that \
+         of the proved library of this version. Metres are rounded to the millimetre; <code>kartsodi answer --bits</code> prints the exact bits.</p>\n",
         paper.file.len(),
         sha256(&paper.file)
     )

@@ -349,6 +349,15 @@ fn a_title_is_escaped() {
     }
 }
 
+/// A page has no folder of the one who made it.
+#[test]
+fn a_page_is_named_after_its_file_alone() {
+    let heading = |page: &str| parse(page).named("h1").next().expect("h1").text();
+    let example = path("examples/junction.plan");
+    assert_eq!(heading(&run(&["sheet", example.to_str().expect("a name")], b"").done_text()), "junction.plan");
+    assert_eq!(heading(&run(&["sheet"], &file("examples/junction.plan")).done_text()), "Junction plan");
+}
+
 /// North is up: of two lanes the northern one has its number higher in the picture.
 #[test]
 fn north_is_up() {

@@ -148,8 +148,8 @@ impl<'a> Lanes<'a> {
         (numbers, left_out)
     }
 
-    /// The free box for a lane's number: on the lane, or beside it and off all lanes where only there it covers no lane end, or else anywhere beside it.
-    /// It covers a mark only where there is no other box.
+    /// The free box for a lane's number: on the lane, or beside it and off all lanes where only there it covers no lane end, or else anywhere
+    /// beside it. It covers a mark only where there is no other box.
     fn plate(&self, i: usize, labels: &mut Labels, marked: &[At]) -> Option<Rect> {
         let line = &self.drawn[i].line;
         let size = [self.drawn[i].number_width(self.text), 1.2 * self.text];
