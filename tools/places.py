@@ -1,8 +1,9 @@
 #!/usr/bin/env python3
-"""places.py [COMMIT] [-l POINT]: counts the places of src/ that the design pass is about, as they stand in a commit (the work tree where none is given).
+"""places.py [COMMIT] [-l POINT]: counts the places of src/ that the design pass is about, as they stand in a commit, or in the work tree where
+none is given.
 
-One line for each count; -l 3 also lists the places of point 3. docs/DESIGN-PASS.md says what each point is. Points 2, 4 and 7 are lists of names, since no
-pattern finds them: the page has those. Rows here are what patterns find.
+One line for each count; -l 3 also lists the places of point 3. docs/DESIGN-PASS.md says what each point is. Points 2, 4 and 7 are lists of names,
+since no pattern finds them: the page has those. Rows here are what patterns find.
 """
 import re
 import subprocess

@@ -1,5 +1,6 @@
 #!/usr/bin/env python3
-"""respell.py [--table]: brings the crates' own definitions and lemmas to snake case, as `laneTables` and `over-length` to `lane_tables` and `over_length`.
+"""respell.py [--table]: brings the crates' own definitions and lemmas to snake case, as `laneTables` and `over-length` to `lane_tables` and
+`over_length`.
 
 It reads the declarations of specs/ and proofs/, makes a table of those names that have a dash or a capital inside, and turns each whole word of the
 table in .antt files, in the clauses of .rt files, in edits and in code spans of .md files. Types, modules, functions of src/ and names that the kit

@@ -134,6 +134,7 @@ fn parse_job(command: Command, mut words: impl Iterator<Item = OsString>) -> Res
             _ if named => {
                 return Err(Failure::Use(format!("one FILE is enough: '{}' is one more", word.to_string_lossy())))
             }
+            _ if word.is_empty() => return Err(Failure::Use("the name of FILE is empty (- is standard input)".into())),
             _ => {
                 named = true;
                 job.source = if word == "-" && !only_names { Source::Input } else { Source::File(word.into()) };
@@ -163,7 +164,8 @@ fn unknown_option(command: Command, word: &OsStr) -> Failure {
 
 impl Job {
     fn set(&mut self, option: &str, words: &mut impl Iterator<Item = OsString>) -> Result<(), Failure> {
-        let mut value = |what: &str| words.next().ok_or_else(|| Failure::Use(format!("{option} needs {what}")));
+        let lacks = |what: &str| Failure::Use(format!("{option} needs {what}"));
+        let mut value = |what: &str| words.next().filter(|word| !word.is_empty()).ok_or_else(|| lacks(what));
         match option {
             "--output" => {
                 self.output = Some(value("a file to write")?.into()).filter(|name: &PathBuf| name.as_os_str() != "-")
@@ -216,10 +218,21 @@ mod tests {
 
     #[test]
     fn wrong_use_is_told() {
-        for line in
-            ["", "maek x", "make --bits x", "make x y", "show --text x", "answer -o", "answer --text --plan x", "-x", "help maek"]
-        {
+        for line in [
+            "",
+            "maek x",
+            "make --bits x",
+            "make x y",
+            "show --text x",
+            "answer -o",
+            "answer --text --plan x",
+            "-x",
+            "help maek",
+        ] {
             assert!(matches!(of(line), Err(Failure::Use(_))), "{line}");
+        }
+        for words in [&["make", ""][..], &["make", "-o", "", "x"], &["sheet", "--title", "", "x"]] {
+            assert!(matches!(parse(words.iter().map(Into::into)), Err(Failure::Use(_))), "{words:?}");
         }
     }
 }
