@@ -116,6 +116,25 @@ fn finding_2_output_that_cannot_be_written() {
     assert_eq!(shell("$K make -o /no/such/folder < /dev/null").refused().matches("cannot be written").count(), 1);
 }
 
+/// A file that is written only in part is taken away: a part of a plan may look like a plan. Here a file may have 512 or 1,024 bytes.
+#[test]
+fn finding_2_a_file_that_cannot_be_written_whole() {
+    let page = std::env::temp_dir().join(format!("kartsodi-part-{}", std::process::id()));
+    let (example, to) = (path("examples/crossing.txt"), page.display());
+    let line = format!("trap '' XFSZ; ulimit -f 1; $K make '{}' -o '{to}'", example.display());
+    assert_eq!(shell(&line).refused(), format!("kartsodi make: {to} cannot be written: file too large\n"));
+    assert!(!page.exists());
+}
+
+/// What is far too long is not read to its end.
+#[test]
+fn finding_6_an_input_that_is_far_too_long() {
+    for command in ["make", "show", "check", "answer", "draw", "sheet"] {
+        let said = shell(&format!("head -c 16777217 /dev/zero | $K {command}")).refused();
+        assert!(said.contains("standard input is longer than 16777216 bytes"), "{command}: {said}");
+    }
+}
+
 #[test]
 fn finding_3_a_gap_at_a_successor() {
     let gap = "lane 1 driving forward 0 0 0 8 0 0\nlane 2 driving forward 108 0 0 116 0 0\n\
@@ -342,6 +361,17 @@ fn finding_4_a_point_on_a_bus_lane() {
             "line 4: the goal is taken to lane 1, which is 9.000 m away",
         ]
     );
+}
+
+/// A chain over a bus lane, which its links allow, is told.
+#[test]
+fn finding_4_a_route_over_a_bus_lane() {
+    let text =
+        "lane 1 driving forward 0 0 0 8 0 0\nlane 2 bus forward 8 0 0 16 0 0\nlane 3 driving forward 16 0 0 24 0 0\n\
+                link 1 successor 2\nlink 2 successor 3\nroute 1 0 0 20 0 0\n";
+    let page = answered(text);
+    assert!(page.contains("   lanes 1, 2, 3; cost 16.000;"), "{page}");
+    assert!(page.contains("   note: lane 2 of the chain is no driving lane (bus)\n"), "{page}");
 }
 
 /// At a stop line several lanes begin and end: the library takes the one that is written first.
