@@ -106,6 +106,9 @@ impl<'a> Drawing<'a> {
         } else if size < SMALL {
             words.push(format!("the whole plan is {} m wide: are its points in kilometres?", metres(size)));
         }
+        if !points.is_empty() && !self.lanes.values().any(|lane| lane.kind.drives()) {
+            words.push("no lane is of the type driving (1): every route is refused".into());
+        }
         if self.unmirrored() {
             let count = self.links.keys().filter(|link| link.1 == Role::Successor).count();
             words.push(format!(

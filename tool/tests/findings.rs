@@ -258,6 +258,14 @@ fn a_plan_without_lanes() {
     assert_eq!(warned(""), ["the plan has no lanes"]);
 }
 
+/// Bus is 3, and routes start and end on driving lanes alone.
+#[test]
+fn finding_3_a_plan_in_which_no_lane_drives() {
+    let text = "lane 1 3 forward 0 0 0 8 0 0\nroute 1 0 0 7 0 0\n";
+    assert_eq!(warned(text), ["no lane is of the type driving (1): every route is refused"]);
+    assert!(answered(text).contains("   refused with number 10: no lane of the plan drives"));
+}
+
 #[test]
 fn finding_3_a_link_to_a_missing_lane() {
     let warnings = warned(&format!("{TWO_LANES}link 2 successor 9\n"));
@@ -293,6 +301,18 @@ fn finding_3_what_else_can_be_told() {
             "line 5: lane 3 has no length: all its points are one",
         ]
     );
+}
+
+/// How to draw: the page has each line of the text, as `make --help` prints them.
+#[test]
+fn finding_3_how_to_draw_has_the_lines() {
+    let (page, help) = (file("docs/DRAWING.md"), run(&["make", "--help"], b"").done_text());
+    let page = String::from_utf8(page).unwrap();
+    let names = ["lane", "link", "section", "place", "route", "advance", "beside"];
+    for name in names {
+        let line = help.lines().find(|line| line.starts_with(&format!("  {name} "))).unwrap().trim();
+        assert!(page.lines().any(|shown| shown.starts_with(&format!("    {line}"))), "{line}");
+    }
 }
 
 /// Two ways of one cost: the library takes the one over the larger lane number.
