@@ -325,6 +325,12 @@ fn the_pages_of_the_examples() {
         });
         let said = root.named("p").filter(|p| p.attribute("class") == Some("answer refused")).count();
         assert_eq!(said, refused.count(), "{name}");
+        // The branches of an advance have the numbers of their marks.
+        let advances = answer.lines().filter_map(|line| line.strip_prefix("advance 0 "));
+        let positions: usize = advances
+            .map(|counts| counts.split(' ').nth(1).expect("positions").parse::<usize>().expect("a count"))
+            .sum();
+        assert_eq!(root.named("ol").map(|branches| branches.named("li").count()).sum::<usize>(), positions, "{name}");
         let printed = shell(&format!("sha256sum {}", path(&format!("examples/{name}.plan")).display())).done_text();
         assert!(text.contains(&printed[..64]), "{name}");
         let version = run(&["--version"], b"").done_text();
