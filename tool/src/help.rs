@@ -42,11 +42,12 @@ Writes the plan of a text, a record a line:
 
 const MADE: &str = "
 All of the text is read before anything is written. Each line with a fault is
-named, with the word and what was expected in its place. A plan that the library
-refuses is not written; what is said then is what `kartsodi check` says. A plan
-is no text: it goes to a file or into a pipe, and not to a terminal. What comes
-after a pipe reads a plan without lanes where nothing was written; -o leaves no
-such doubt, nor does `kartsodi answer --bits TEXT`, which needs no pipe.
+named (of more than 20, the first 20), with the word and what was expected in
+its place. A plan that the library refuses is not written; what is said then is
+what `kartsodi check` says. A plan is no text: it goes to a file or into a pipe,
+and not to a terminal. What comes after a pipe reads a plan without lanes where
+nothing was written; -o leaves no such doubt, nor does `kartsodi answer --bits
+TEXT`, which needs no pipe.
 
 ";
 

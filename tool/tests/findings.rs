@@ -512,6 +512,10 @@ fn finding_6_words_of_make() {
         let heard = run(&["make"], text).refused();
         assert!(heard.contains(said), "{said}: {heard}");
     }
+    // Each line with a fault is named, up to twenty.
+    let heard = run(&["make"], "lnk\n".repeat(30).as_bytes()).refused();
+    assert!(heard.contains("standard input, line 20: 'lnk'") && !heard.contains("line 21"), "{heard}");
+    assert!(heard.ends_with("kartsodi make: standard input: and 10 more lines have faults\n"), "{heard}");
     let folder = path("crates");
     let folder = folder.to_str().unwrap();
     assert!(run(&["make", folder], b"").refused().contains("cannot be read: is a directory"));
