@@ -13,7 +13,7 @@ pub fn question(answered: &Answered) -> String {
         Answered::Route { query, .. } => format!("route from {} to {}", exact(query.from), exact(query.to)),
         Answered::Advance { query, .. } => {
             let (from, distance) = (query.from, query.distance);
-            let way = if distance.is_sign_negative() { "back" } else { "on" };
+            let way = if distance < 0.0 { "back" } else { "on" };
             let (s, offset) = (double(from.s), double(from.offset));
             format!(
                 "advance {} m {way} from lane {}, station {s}, offset {offset}",

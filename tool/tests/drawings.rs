@@ -338,9 +338,11 @@ fn the_pages_of_the_examples() {
         // Each question and each part of its answer, as `answer` prints them, but for capital letters.
         let shown = text.to_lowercase();
         let answered = run(&["answer"], &plan).done_text();
-        let lines = answered.lines().skip(1).map(str::trim).filter(|line| !line.is_empty() && !line.starts_with('('));
+        let lines = answered.lines().skip(1).map(str::trim).filter(|line| !line.is_empty());
         for line in lines.filter(|line| *line != "points:") {
-            assert!(shown.contains(&line.to_lowercase()), "{name}: {line}");
+            for part in line.to_lowercase().split_inclusive(") ").map(str::trim) {
+                assert!(shown.contains(part), "{name}: {part}");
+            }
         }
     }
 }

@@ -190,6 +190,7 @@ fn finding_3_links_are_not_mirrored() {
     assert_eq!(warned(back), ["line 3: there is no `link 1 successor 2`: no route and no advance goes on over it"]);
     let places = "section 1 0 0 8 0 8\nsection 2 0 0 8 0 8\nplace 1 1 0 -1\nplace 2 2 0 -1\nadvance 2 0 0 -6\n";
     let page = answered(&format!("{one_way}{places}"));
+    assert!(page.contains("1. advance 6 m back from lane 2, station 0, offset 0\n"), "{page}");
     assert!(page.contains("dead end, 6.000 m short: lane 2, station 0.000"), "{page}");
     let page = answered(&format!("{TWO_LANES}{places}"));
     assert!(page.contains("reached: lane 1, station 2.000"), "{page}");
