@@ -37,6 +37,7 @@ fn nearest_from(
 
 // The driving lane nearest to a point, and the place on it: numbers 1 to 8, 9 where a coordinate is not finite, and 10 where no lane drives.
 // The tables come one by one, as C lends them.
+#[tactic(auto, using(calling::specs::Calling::calls_refused))]
 pub fn nearest_lane(
     file: &[u8],
     x: f32,

@@ -40,6 +40,7 @@ fn pose_from(
 
 // The place and the heading on a lane at the arc length s, which is clamped to the lane: numbers 1 to 8, and 12 for an unknown lane.
 // The tables come one by one, as C lends them.
+#[tactic(auto, using(calling::specs::Calling::calls_refused))]
 pub fn pose(
     file: &[u8],
     lane: LaneId,
