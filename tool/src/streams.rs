@@ -2,10 +2,10 @@
 
 use crate::args::Source;
 use crate::failure::Failure;
-use std::fs::{self, File};
-use std::io::{self, IsTerminal, Read, Write};
+use std::fs::{self, File, Metadata, OpenOptions};
+use std::io::{self, ErrorKind, IsTerminal, Read, Write};
 use std::os::unix::fs::MetadataExt;
-use std::path::Path;
+use std::path::{Path, PathBuf};
 use std::sync::atomic::{AtomicBool, Ordering};
 
 /// The most bytes that are read: far more than the text of any plan has. A plan has at most 65,536.
@@ -57,7 +57,7 @@ pub fn is_source(to: &Path, source: &Source) -> bool {
         Source::File(path) => path,
         Source::Input => Path::new("/dev/stdin"),
     };
-    let file = |path| fs::metadata(path).ok().filter(fs::Metadata::is_file).map(|file| (file.dev(), file.ino()));
+    let file = |path| fs::metadata(path).ok().filter(Metadata::is_file).map(|file| (file.dev(), file.ino()));
     file(from).is_some() && file(from) == file(to)
 }
 
@@ -84,18 +84,67 @@ pub fn write(to: Option<&Path>, bytes: &[u8]) -> Result<(), Failure> {
     }
 }
 
-/// Writes a file whole, or leaves none: a part of a plan may look like a plan. A file that cannot be opened stays as it is.
+/// Writes a file whole, or leaves what stood there, or none: a part of a plan may look like a plan. A link stays, and what it names is written.
 fn write_file(path: &Path, bytes: &[u8]) -> Result<(), Failure> {
     let failed =
         |fault: io::Error| Failure::refused(format!("{} cannot be written: {}", path.display(), words(&fault)));
-    let mut file = File::create(path).map_err(failed)?;
-    file.write_all(bytes).map_err(|fault| {
-        if path.is_file() {
-            // If this fails too, the words still say that the file is not what was asked for.
-            let _ = fs::remove_file(path);
+    // Opened, though it is replaced: what may not be written stays as it is.
+    let standing = match OpenOptions::new().write(true).open(path) {
+        Ok(file) => Some(file),
+        Err(fault) if fault.kind() == ErrorKind::NotFound => None,
+        Err(fault) => return Err(failed(fault)),
+    };
+    let named = end_of_links(path);
+    match standing {
+        // A device or a pipe; or a file without a name any more, which the system still shows as a link.
+        Some(mut file) if !is_same(&file, &named) => file.write_all(bytes).map_err(failed),
+        file => replace(&named, file.as_ref(), bytes).map_err(failed),
+    }
+}
+
+/// What a path names, by its links. The last may name a file that is not there yet.
+fn end_of_links(path: &Path) -> PathBuf {
+    let mut path = path.to_path_buf();
+    while let Ok(to) = fs::read_link(&path) {
+        path = path.parent().unwrap_or(Path::new("")).join(to);
+    }
+    path
+}
+
+/// Whether an open file is a regular one, and the one of this name.
+fn is_same(file: &File, named: &Path) -> bool {
+    let id = |data: io::Result<Metadata>| data.ok().filter(Metadata::is_file).map(|data| (data.dev(), data.ino()));
+    let id_of_open = id(file.metadata());
+    id_of_open.is_some() && id_of_open == id(fs::metadata(named))
+}
+
+/// Writes beside a file and puts that in its place, with the rights that it had. Where this fails, only what was begun goes.
+fn replace(named: &Path, standing: Option<&File>, bytes: &[u8]) -> io::Result<()> {
+    let (mut file, begun) = begin(named)?;
+    let rights = standing.map(|file| file.metadata().map(|data| data.permissions())).transpose();
+    let done = rights
+        .and_then(|rights| rights.map_or(Ok(()), |rights| file.set_permissions(rights)))
+        .and_then(|()| file.write_all(bytes))
+        // Some systems say only here that the disk is full.
+        .and_then(|()| file.sync_all())
+        .and_then(|()| fs::rename(&begun, named));
+    if done.is_err() {
+        // If this fails too, the words still say that nothing was written.
+        let _ = fs::remove_file(&begun);
+    }
+    done
+}
+
+/// A new file in the same folder, under a name that is not taken.
+fn begin(named: &Path) -> io::Result<(File, PathBuf)> {
+    for number in 0.. {
+        let begun = named.with_file_name(format!(".kartsodi-{}-{number}", std::process::id()));
+        match OpenOptions::new().write(true).create_new(true).open(&begun) {
+            Err(fault) if fault.kind() == ErrorKind::AlreadyExists => {}
+            made => return made.map(|file| (file, begun)),
         }
-        failed(fault)
-    })
+    }
+    unreachable!("there are more numbers than files")
 }
 
 /// What went wrong, without the system's number.

@@ -116,14 +116,52 @@ fn finding_2_output_that_cannot_be_written() {
     assert_eq!(shell("$K make -o /no/such/folder < /dev/null").refused().matches("cannot be written").count(), 1);
 }
 
-/// A file that is written only in part is taken away: a part of a plan may look like a plan. Here a file may have 512 or 1,024 bytes.
+/// A file that is written only in part is taken away, and what stood there stays: a part of a plan may look like a plan. Here a file may have 512 or
+/// 1,024 bytes.
 #[test]
 fn finding_2_a_file_that_cannot_be_written_whole() {
-    let page = std::env::temp_dir().join(format!("kartsodi-part-{}", std::process::id()));
+    let folder = std::env::temp_dir().join(format!("kartsodi-part-{}", std::process::id()));
+    std::fs::create_dir_all(&folder).unwrap();
+    let names = || std::fs::read_dir(&folder).unwrap().map(|entry| entry.unwrap().file_name()).collect::<Vec<_>>();
+    let page = folder.join("my.plan");
     let (example, to) = (path("examples/crossing.txt"), page.display());
     let line = format!("trap '' XFSZ; ulimit -f 1; $K make '{}' -o '{to}'", example.display());
-    assert_eq!(shell(&line).refused(), format!("kartsodi make: {to} cannot be written: file too large\n"));
-    assert!(!page.exists());
+    let said = format!("kartsodi make: {to} cannot be written: file too large\n");
+    assert_eq!(shell(&line).refused(), said);
+    assert_eq!(names(), [""; 0]);
+    std::fs::write(&page, "what stood there").unwrap();
+    assert_eq!(shell(&line).refused(), said);
+    assert_eq!((names(), std::fs::read(&page).unwrap()), (vec!["my.plan".into()], b"what stood there".to_vec()));
+    std::fs::remove_dir_all(&folder).unwrap();
+}
+
+/// A file is replaced where it is: with its rights, and by a link too, which stays, also one to a file that is yet to be written.
+#[test]
+fn finding_2_a_file_is_replaced_where_it_is() {
+    use std::os::unix::fs::{symlink, PermissionsExt};
+    let folder = std::env::temp_dir().join(format!("kartsodi-place-{}", std::process::id()));
+    std::fs::create_dir_all(folder.join("in")).unwrap();
+    let (plan, made) = (folder.join("in/my.plan"), run(&["make"], TWO_LANES.as_bytes()).done());
+    symlink("in/link", folder.join("first")).unwrap();
+    symlink("my.plan", folder.join("in/link")).unwrap();
+    let link = folder.join("first");
+    for stood in [None, Some("what stood there, and is longer than the plan of two lanes that comes: ".repeat(9))] {
+        if let Some(stood) = &stood {
+            std::fs::write(&plan, stood).unwrap();
+            std::fs::set_permissions(&plan, PermissionsExt::from_mode(0o640)).unwrap();
+        }
+        run(&["make", "-o", link.to_str().unwrap()], TWO_LANES.as_bytes()).done();
+        assert_eq!(std::fs::read(&plan).unwrap(), made);
+        assert_eq!(std::fs::read_link(&link).unwrap().to_str(), Some("in/link"));
+        assert_eq!(std::fs::read_dir(folder.join("in")).unwrap().count(), 2);
+        assert!(stood.is_none() || plan.metadata().unwrap().permissions().mode() & 0o777 == 0o640);
+    }
+    // What is no file is written as it is.
+    let tee = path("examples/tee.txt");
+    assert_eq!(shell(&format!("$K make '{}' -o /dev/stdout | cat", tee.display())).done(), file("examples/tee.plan"));
+    let said = shell(&format!("$K make '{}' -o /dev/full", tee.display())).refused();
+    assert_eq!(said, "kartsodi make: /dev/full cannot be written: no space left on device\n");
+    std::fs::remove_dir_all(&folder).unwrap();
 }
 
 /// What is far too long is not read to its end.
