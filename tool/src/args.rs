@@ -3,6 +3,7 @@
 use crate::failure::Failure;
 use crate::help::help;
 use std::ffi::{OsStr, OsString};
+use std::os::unix::ffi::OsStrExt;
 use std::path::PathBuf;
 
 /// What is asked for.
@@ -68,6 +69,8 @@ pub enum Command {
 }
 
 const EITHER: &[&str] = &["--text", "--plan"];
+/// The options that take a value.
+const VALUED: &[&str] = &["--output", "--title"];
 
 impl Command {
     pub const ALL: [Command; 6] =
@@ -125,11 +128,11 @@ fn parse_job(command: Command, mut words: impl Iterator<Item = OsString>) -> Res
     let (mut named, mut only_names) = (false, false);
     while let Some(word) = words.next() {
         let is_option = !only_names && word != "-" && word.as_encoded_bytes().starts_with(b"-");
-        match option_name(&word).filter(|_| is_option) {
-            Some("--help") => return Ok(Asked::Help(Some(command))),
-            Some("--version") => return Ok(Asked::Version),
-            Some("--") => only_names = true,
-            Some(option) if command.takes(option) => job.set(option, &mut words)?,
+        match option(&word).filter(|_| is_option) {
+            Some(("--help", None)) => return Ok(Asked::Help(Some(command))),
+            Some(("--version", None)) => return Ok(Asked::Version),
+            Some(("--", None)) => only_names = true,
+            Some((option, value)) if command.takes(option) => job.set(option, value.map(Into::into), &mut words)?,
             _ if is_option => return Err(unknown_option(command, &word)),
             _ if named => {
                 return Err(Failure::Use(format!("one FILE is enough: '{}' is one more", word.to_string_lossy())))
@@ -147,14 +150,22 @@ fn parse_job(command: Command, mut words: impl Iterator<Item = OsString>) -> Res
     Ok(Asked::Run(job))
 }
 
-/// An option by its long name.
-fn option_name(word: &OsStr) -> Option<&str> {
-    Some(match word.to_str()? {
+/// An option by its long name, with the value that is written to it: `--output=FILE`, `-oFILE`.
+fn option(word: &OsStr) -> Option<(&str, Option<&OsStr>)> {
+    let word = word.as_bytes();
+    let equals = word.iter().position(|byte| *byte == b'=').filter(|_| word.starts_with(b"--"));
+    let (name, value) = match equals {
+        Some(at) => (&word[..at], Some(&word[at + 1..])),
+        None if word.starts_with(b"-o") && word.len() > 2 => (&word[..2], Some(&word[2..])),
+        None => (word, None),
+    };
+    let name = match std::str::from_utf8(name).ok()? {
         "-h" => "--help",
         "-V" => "--version",
         "-o" => "--output",
         long => long,
-    })
+    };
+    Some((name, value.map(OsStr::from_bytes)))
 }
 
 fn unknown_option(command: Command, word: &OsStr) -> Failure {
@@ -163,9 +174,19 @@ fn unknown_option(command: Command, word: &OsStr) -> Failure {
 }
 
 impl Job {
-    fn set(&mut self, option: &str, words: &mut impl Iterator<Item = OsString>) -> Result<(), Failure> {
+    /// Takes an option, whose value is written to it or is the next word.
+    fn set(
+        &mut self,
+        option: &str,
+        written: Option<OsString>,
+        words: &mut impl Iterator<Item = OsString>,
+    ) -> Result<(), Failure> {
+        if written.is_some() && !VALUED.contains(&option) {
+            return Err(Failure::Use(format!("{option} takes no value")));
+        }
         let lacks = |what: &str| Failure::Use(format!("{option} needs {what}"));
-        let mut value = |what: &str| words.next().filter(|word| !word.is_empty()).ok_or_else(|| lacks(what));
+        let next = || written.or_else(|| words.next());
+        let value = |what: &str| next().filter(|word| !word.is_empty()).ok_or_else(|| lacks(what));
         match option {
             "--output" => {
                 self.output = Some(value("a file to write")?.into()).filter(|name: &PathBuf| name.as_os_str() != "-")
@@ -206,6 +227,21 @@ mod tests {
     }
 
     #[test]
+    fn values_are_written_to_their_options() {
+        for line in ["draw a -o b=c", "draw a -ob=c", "draw a --output b=c", "draw a --output=b=c", "draw -ob=c a"] {
+            let Ok(Asked::Run(job)) = of(line) else { panic!("{line}") };
+            assert_eq!((job.source, job.output), (Source::File("a".into()), Some("b=c".into())), "{line}");
+        }
+        let words = ["sheet", "--title=two words", "-"];
+        assert!(matches!(parse(words.map(Into::into)), Ok(Asked::Run(job)) if job.title == Some("two words".into())));
+        assert!(matches!(of("show a -o-"), Ok(Asked::Run(job)) if job.output.is_none()));
+        assert!(
+            matches!(of("show -- --output=b"), Ok(Asked::Run(job)) if job.source == Source::File("--output=b".into()))
+        );
+        assert!(of("answer --bits=yes x") == Err(Failure::Use("--bits takes no value".into())));
+    }
+
+    #[test]
     fn help_and_version_are_everywhere() {
         assert_eq!((of("--help"), of("-V")), (Ok(Asked::Help(None)), Ok(Asked::Version)));
         for command in Command::ALL {
@@ -225,6 +261,11 @@ mod tests {
             "make x y",
             "show --text x",
             "answer -o",
+            "answer --output= x",
+            "check --output=y x",
+            "check -oy x",
+            "make --help=y x",
+            "make --=y x",
             "answer --text --plan x",
             "-x",
             "help maek",
