@@ -110,10 +110,12 @@ impl<'a> Drawing<'a> {
             words.push("no lane is of the type driving (1): every route is refused".into());
         }
         if self.unmirrored() {
-            let count = self.links.keys().filter(|link| link.1 == Role::Successor).count();
+            let links = match self.links.keys().filter(|link| link.1 == Role::Successor).count() {
+                1 => "the only successor link has not".into(),
+                count => format!("none of the {count} successor links has"),
+            };
             words.push(format!(
-                "none of the {count} successor links has its mirror, a predecessor link: \
-                 an advance by a distance below 0 ends where its lane begins"
+                "{links} its mirror, a predecessor link: an advance by a distance below 0 ends where its lane begins"
             ));
         }
         words

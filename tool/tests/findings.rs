@@ -217,8 +217,10 @@ fn finding_3_lanes_of_a_section() {
 #[test]
 fn finding_3_links_are_not_mirrored() {
     let one_way = "lane 1 driving forward 0 0 0 8 0 0\nlane 2 driving forward 8 0 0 16 0 0\nlink 1 successor 2\n";
-    let warning = &warned(one_way)[0];
-    assert!(warning.starts_with("none of the 1 successor links has its mirror"), "{warning}");
+    let said = "its mirror, a predecessor link: an advance by a distance below 0 ends where its lane begins";
+    assert_eq!(warned(one_way), [format!("the only successor link has not {said}")]);
+    let two = format!("{one_way}lane 3 driving forward 16 0 0 24 0 0\nlink 2 successor 3\n");
+    assert_eq!(warned(&two), [format!("none of the 2 successor links has {said}")]);
     let some = format!("{one_way}lane 3 driving forward 16 0 0 24 0 0\nlink 2 successor 3\nlink 3 predecessor 2\n");
     assert_eq!(
         warned(&some),
