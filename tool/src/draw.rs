@@ -83,7 +83,7 @@ impl<'a> Drawing<'a> {
 
     /// Some of the questions, given by their places in the paper.
     fn drawn(&self, questions: impl Iterator<Item = usize>) -> Drawn {
-        Pen::draw(self.paper, &self.frame, &self.lanes, self.labels.clone(), questions)
+        Pen::draw(self.paper, &self.frame, &self.lanes, self.labels.clone(), &self.numbers, questions)
     }
 
     /// One question; none where nothing of it can be seen.

@@ -166,6 +166,36 @@ fn assert_unmarked(labels: &[Label], marks: &[[f64; 4]]) {
     }
 }
 
+/// The lines from labels of questions to their marks: straight ones that start in the middle of a label.
+fn leaders(picture: &Element, labels: &[Label]) -> Vec<[[f64; 2]; 2]> {
+    let straight = picture.named("path").filter_map(|path| {
+        let places = path.attribute("d")?.strip_prefix('M')?;
+        let numbers: Vec<f64> = places.split(['L', ' ']).map_while(|word| word.parse().ok()).collect();
+        match numbers[..] {
+            [x, y, to_x, to_y] => Some([[x, y], [to_x, to_y]]),
+            _ => None,
+        }
+    });
+    let middle = |x: f64, y: f64| {
+        let off = |low: f64, high: f64, at: f64| (0.5 * (low + high) - at).abs() < 0.02;
+        labels.iter().any(|Label { plate: [l, t, r, b], .. }| off(*l, *r, x) && off(*t, *b, y))
+    };
+    straight.filter(|[[x, y], _]| middle(*x, *y)).collect()
+}
+
+/// No line from a label to its mark goes under one of these labels, by places along it.
+fn assert_seen(leaders: &[[[f64; 2]; 2]], labels: &[Label]) {
+    for [from, to] in leaders {
+        let along = |part: u32, axis: usize| from[axis] + f64::from(part) / 200.0 * (to[axis] - from[axis]);
+        for Label { plate: [left, top, right, bottom], text } in labels {
+            let inside = |x: f64, y: f64| *left < x && x < *right && *top < y && y < *bottom;
+            let own = inside(from[0], from[1]);
+            let hidden = !own && (0..=200).any(|part| inside(along(part, 0), along(part, 1)));
+            assert!(!hidden, "a line from {from:?} to {to:?} goes under {text}");
+        }
+    }
+}
+
 /// All labels lie in the picture's part of the drawing.
 fn assert_inside(picture: &Element, labels: &[Label]) {
     let view = picture.attribute("viewBox").expect("a part").split(' ').map(|x| x.parse().expect("a number"));
@@ -268,10 +298,10 @@ fn the_examples_are_drawn_rightly() {
     }
 }
 
-/// In the pictures of this project, and on the pages made of them.
+/// In the pictures of this project, and on the pages made of them. Nor does a lane number lie on the line from a label to its mark.
 #[test]
 fn no_mark_lies_on_a_label() {
-    let mut seen = 0;
+    let (mut seen, mut led) = (0, 0);
     for name in pictures() {
         let text = file(&format!("{name}.txt"));
         let root = drawn(&text);
@@ -284,9 +314,16 @@ fn no_mark_lies_on_a_label() {
             assert_unmarked(&numbers, &marks);
             assert_unmarked(&labels(picture), &marks);
             seen += marks.len();
+            let lines = leaders(picture, &labels(picture));
+            assert_seen(&lines, &numbers);
+            led += lines.len();
+        }
+        // In the whole picture too, but for the tee, of which a place has five labels.
+        if name != "examples/tee" {
+            assert_seen(&leaders(&root, &labels(&root)), &numbers);
         }
     }
-    assert!(seen > 50, "{seen} marks");
+    assert!(seen > 50 && led > 50, "{seen} marks, {led} lines");
 }
 
 #[test]

@@ -2,7 +2,7 @@
 
 use crate::draw::frame::{At, Frame};
 use crate::draw::labels::{text_width, Labels, Rect};
-use crate::draw::lanes::{head, leader, on_plate, Lanes, MARK};
+use crate::draw::lanes::{head, leader, on_plate, Lanes, Number, MARK};
 use crate::draw::line::{distance, path};
 use crate::geometry;
 use crate::markup::{escaped, number};
@@ -80,16 +80,18 @@ impl<'a> Pen<'a> {
         pen.marks.iter().map(|mark| mark.at).collect()
     }
 
-    /// Draws some questions, given by their places in the paper.
+    /// Draws some questions, given by their places in the paper, among the lane numbers.
     pub fn draw(
         paper: &Paper,
         frame: &Frame,
         lanes: &Lanes,
         mut labels: Labels,
+        numbers: &[Number],
         questions: impl Iterator<Item = usize>,
     ) -> Drawn {
         let mut pen = Pen::new(paper, frame, lanes, questions);
-        let (leaders, marks) = pen.labelled(&mut labels);
+        let numbers: Vec<Rect> = numbers.iter().map(|number| number.plate).collect();
+        let (leaders, marks) = pen.labelled(&mut labels, &numbers);
         let shapes = pen.marks.iter().map(|mark| mark.shape).collect();
         Drawn { lines: pen.lines + &leaders, marks, shapes, routes: pen.routes, bounds: pen.bounds }
     }
@@ -211,8 +213,8 @@ impl<'a> Pen<'a> {
     }
 
     /// Each label beside its mark where there is room: the lines to them, which go below the lane numbers, and the marks and labels themselves.
-    fn labelled(&mut self, labels: &mut Labels) -> (String, String) {
-        let size = 0.9 * self.text;
+    fn labelled(&mut self, labels: &mut Labels, numbers: &[Rect]) -> (String, String) {
+        let size = label_size(self.text);
         self.marks.iter().for_each(|mark| labels.take(Rect::around(mark.at, 0.5 * size, 0.5 * size)));
         let (mut leaders, mut shapes, mut plates) = (String::new(), String::new(), String::new());
         let mut taken = Vec::new();
@@ -222,16 +224,23 @@ impl<'a> Pen<'a> {
                 continue;
             }
             let room = [text_width(&mark.label, size) + 0.4 * size, 1.2 * size];
-            let off_lanes = |rect: &Rect| self.lanes.off_lanes(rect);
-            let plate = labels.beside(mark.at, room, 12, |rect| off_lanes(rect) && self.leads_to(rect, mark));
-            let plate = plate.or_else(|| labels.beside(mark.at, room, 12, |rect| self.leads_to(rect, mark)));
+            let leads_to = |rect: &Rect| self.leads_to(rect, mark);
+            // The line to it goes under no lane number.
+            let seen =
+                |rect: &Rect| leads_to(rect) && !numbers.iter().any(|plate| plate.crossed(rect.middle(), mark.at));
+            // On a lane, it covers the line of no other label where that can be.
+            let bares = |rect: &Rect| !taken.iter().any(|(plate, at): &(Rect, At)| rect.crossed(plate.middle(), *at));
+            let plate = labels.beside(mark.at, room, 12, |rect| self.lanes.off_lanes(rect) && seen(rect));
+            let plate = plate.or_else(|| labels.beside(mark.at, room, 12, |rect| seen(rect) && bares(rect)));
+            let plate = plate.or_else(|| labels.beside(mark.at, room, 12, seen));
+            let plate = plate.or_else(|| labels.beside(mark.at, room, 12, leads_to));
             if let Some(plate) = plate.or_else(|| labels.beside(mark.at, room, 24, |_| true)) {
                 leaders += &leader(plate.middle(), mark.at, mark.colour, self.text);
                 plates += &on_plate(plate, &escaped(&mark.label), mark.colour, size);
-                taken.push(plate);
+                taken.push((plate, mark.at));
             }
         }
-        taken.into_iter().for_each(|plate| self.reach(plate));
+        taken.into_iter().for_each(|(plate, _)| self.reach(plate));
         (leaders, shapes + &plates)
     }
 
@@ -241,6 +250,11 @@ impl<'a> Pen<'a> {
         let mut others = self.marks.iter().filter(|other| distance(other.at, mark.at) > 0.5 * size);
         !others.any(|other| Rect::around(other.at, size, size).crossed(plate.middle(), mark.at))
     }
+}
+
+/// How high the text of a question's label is, where that of a lane number is this high.
+pub fn label_size(text: f64) -> f64 {
+    0.9 * text
 }
 
 /// A point seen from above.
