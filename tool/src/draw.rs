@@ -36,6 +36,8 @@ pub fn svg(paper: &Paper) -> String {
 pub struct Part {
     /// The part of the drawing to be seen.
     pub view: Rect,
+    /// Whether its labels would be small where it has little more than half the width of a page.
+    pub wide: bool,
     /// What goes between ground and lane numbers.
     pub lines: String,
     /// The lanes whose numbers can be seen whole: a part of one would look like another.
@@ -43,6 +45,9 @@ pub struct Part {
     /// What goes above them.
     pub marks: String,
 }
+
+/// Labels lower than this part of their picture's width are small: where it is 97 mm wide on paper, those of less than 7.3 points.
+const SMALL_LABEL: f64 = 0.0265;
 
 /// A plan with lanes, ready to be drawn, whole or question by question.
 pub struct Drawing<'a> {
@@ -95,7 +100,8 @@ impl<'a> Drawing<'a> {
         let view = self.view(cut.fold(narrow, |view, plate| view.with(&plate)));
         let whole = self.numbers.iter().zip(plates()).filter(|(_, plate)| view.holds(*plate));
         let numbered = whole.map(|(number, _)| number.lane).collect();
-        Some(Part { view, lines: drawn.lines, numbered, marks: drawn.marks })
+        let wide = marks::label_size(self.lanes.text) < SMALL_LABEL * view.width();
+        Some(Part { view, wide, lines: drawn.lines, numbered, marks: drawn.marks })
     }
 
     /// The part of the drawing around a box: not too small, so that one sees where it is, and wider than high.

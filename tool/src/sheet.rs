@@ -1,7 +1,7 @@
 //! `kartsodi sheet`: a plan with its questions and answers as a page to print. The page is HTML and well-formed XML, and stands alone: it has no
 //! script and reads nothing from elsewhere. The same plan and title give the same bytes.
 
-use crate::draw::{Drawing, Entry, Rect, FONTS, SIGN};
+use crate::draw::{Drawing, Entry, Part, Rect, FONTS, SIGN};
 use crate::markup::{escaped, number};
 use crate::paper::{Answered, Paper};
 use crate::sha256::sha256;
@@ -84,12 +84,15 @@ fn question(paper: &Paper, drawing: Option<&Drawing>, i: usize) -> String {
     // The branches of an advance are numbered: their marks in the picture have the same numbers.
     let list = if matches!(answered, Answered::Advance { .. }) { "ol" } else { "ul" };
     let parts = if parts.is_empty() { parts } else { format!("<{list}>\n{parts}</{list}>\n") };
+    let picture = drawing.and_then(|drawing| drawing.question(i));
+    let wide = picture.as_ref().is_some_and(|part| part.wide);
     format!(
-        "<section>\n<div class=\"words\">\n<h3>{}. {}</h3>\n<p class=\"{class}\">{}</p>\n{parts}</div>\n{}{}</section>\n",
+        "<section{}>\n<div class=\"words\">\n<h3>{}. {}</h3>\n<p class=\"{class}\">{}</p>\n{parts}</div>\n{}{}</section>\n",
+        if wide { " class=\"wide\"" } else { "" },
         i + 1,
         escaped(&capital(&words::question(answered))),
         escaped(&capital(first)),
-        drawing.and_then(|drawing| question_picture(drawing, i)).unwrap_or_default(),
+        picture.map_or(String::new(), |part| question_picture(&part, i)),
         points(answered),
     )
 }
@@ -102,17 +105,16 @@ fn is_refused(answered: &Answered) -> bool {
     }
 }
 
-/// The picture of a question, where there is something of it to be seen.
-fn question_picture(drawing: &Drawing, i: usize) -> Option<String> {
-    let part = drawing.question(i)?;
+/// The picture of a question.
+fn question_picture(part: &Part, i: usize) -> String {
     let numbers = part.numbered.iter().map(|lane| format!("<use href=\"#lane-{lane}\"/>\n"));
-    Some(format!(
+    format!(
         "<figure>\n{}<use href=\"#ground\"/>\n{}{}{}</svg>\n</figure>\n",
         picture(&format!("Question {} in the plan", i + 1), part.view),
         part.lines,
         numbers.collect::<String>(),
         part.marks
-    ))
+    )
 }
 
 fn points(answered: &Answered) -> String {
@@ -154,6 +156,7 @@ svg { display: block; width: 100%; height: auto; }
 .legend li { display: flex; align-items: center; gap: 0.4rem; }
 .legend svg { width: 2.6rem; }
 section { display: grid; grid-template-columns: 9fr 11fr; gap: 0 1rem; border-top: 1px solid #999999; padding: 0.7rem 0; break-inside: avoid; }
+section.wide { grid-template-columns: minmax(0, 1fr); gap: 0.5rem; }
 section figure { border: 1px solid #cccccc; align-self: start; }
 .answer { font-weight: bold; }
 .points { grid-column: 1 / -1; display: grid; grid-template-columns: repeat(auto-fill, minmax(11.5em, 1fr)); gap: 0 0.8em;

@@ -326,6 +326,29 @@ fn no_mark_lies_on_a_label() {
     assert!(seen > 50 && led > 50, "{seen} marks, {led} lines");
 }
 
+/// On A4 paper, a picture is 97 mm wide beside its words and 180 mm wide below them: labels have 7 points at least.
+#[test]
+fn labels_of_questions_can_be_read_on_paper() {
+    let (mut wide, mut beside) = (0, 0);
+    for name in EXAMPLES {
+        let page = page(&file(&format!("examples/{name}.plan")));
+        for section in page.named("section") {
+            let is_wide = section.attribute("class") == Some("wide");
+            let width = if is_wide { 180.0 } else { 97.0 } / 25.4 * 72.0;
+            for picture in section.named("svg") {
+                let view: f64 =
+                    picture.attribute("viewBox").expect("a part").split(' ').nth(2).unwrap().parse().unwrap();
+                for text in picture.named("text") {
+                    let points = text.number("font-size") / view * width;
+                    assert!(points > 7.0, "{name}: {} has {points} points", section.text());
+                }
+                *if is_wide { &mut wide } else { &mut beside } += 1;
+            }
+        }
+    }
+    assert!(wide >= 5 && beside > 2 * wide, "{wide} below their words, {beside} beside them");
+}
+
 #[test]
 fn every_lane_has_its_number() {
     for name in pictures() {
