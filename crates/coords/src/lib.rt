@@ -118,6 +118,7 @@ impl Vector {
     }
 
     // The displacement `t` of the way from here to `other`. `t` is not clamped.
+    // One body for this and `Point::lerp` would take a trait with the laws of `-` and `+` at both types: no plainer than the line.
     pub fn lerp(self, other: Vector, t: f32) -> Vector
         ensures { result ≡ lerp_vector self other t }
     {

@@ -24,7 +24,7 @@ pub trait Real: Copy {
 
     ghost INFINITY: { Self };
 
-    // The machine's `==` and `<`. Those of `PartialEq` and `PartialOrd` take more branches in `is_finite` and `min`.
+    // The machine's `==` and `<`. The `<` of `PartialOrd` goes through `partial_cmp`: `is_finite` of an f32 took 13 instructions by it, and takes 9.
     fn is_equal(self, y: Self) -> bool
         ensures { result ≡ eq (float self) (float y) };
 
@@ -48,6 +48,8 @@ pub trait Real: Copy {
     ghost infinity_law: { float INFINITY ≡ inf false };
 }
 
+// From `from_bits` to `abs` the two impls differ in constants alone. Bodies for both would compare and reduce `Bits` of two widths, by a trait of
+// its own with laws: no plainer.
 impl Real for f32 {
     type Bits = u32;
 

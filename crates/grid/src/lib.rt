@@ -110,7 +110,8 @@ pub struct Ring {
     pub ghost near: { (center.ix < 1024) × (center.iy < 1024) × (r ≤ 1024) },
 }
 
-// The numbers first, first + step, .. below end. No `StepBy`: the definitions of specs/Ring.antt speak of these three numbers.
+// The numbers first, first + step, .. below end.
+// A `StepBy` is no plainer: its fields are private, and contracts here and in `network` bound and list by each of these three.
 #[repr(C)]
 #[derive(Clone, Copy)]
 pub struct Run {

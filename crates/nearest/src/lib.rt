@@ -51,6 +51,7 @@ impl From<Result<NearestLane, Refusal>> for NearestAnswer {
 
 // The lanes of a plan: a row for each, and the place and the arc length of each point. Not the struct of `pose` or of `branches`: those ask that
 // arc lengths rise, this one that they are the sums of the segments and that the spans are few, so that one for all would ask more of each caller.
+// C gives the count apart, since its list may hold more rows.
 #[derive(Clone, Copy)]
 pub struct Lanes<'a> {
     pub rows: &'a [usize],

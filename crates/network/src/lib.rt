@@ -232,15 +232,7 @@ fn wins(d2: f32, item: usize, best: Option<Nearest>) -> bool
 {
     match best {
         None => true,
-        Some(b) => {
-            if d2 < b.dist2 {
-                return true;
-            }
-            if d2 == b.dist2 {
-                return item < b.span;
-            }
-            false
-        }
+        Some(b) => (d2, item) < (b.dist2, b.span),
     }
 }
 
@@ -278,7 +270,8 @@ fn measure(
     best
 }
 
-// An index with the tables that it stands in: what a query reads.
+// An index with the tables that it stands in: what a query reads. That a span is below the index's count stands in three contracts, since it is
+// of a number in a loop: a struct of the two would be made at each turn, and is no plainer.
 #[derive(Clone, Copy)]
 pub struct Spans<'a> {
     pub lanes: &'a [usize],
@@ -295,7 +288,8 @@ pub struct Spans<'a> {
 impl<'a> Spans<'a> {
     ghost use Rattle.network.specs.Indexed.{spans_of, items_of, item_at, best_in};
 
-    // The projection onto segments of the lane in a row.
+    // The projection onto segments of the lane in a row. `branches` and `pose` cut a line so too, each by a fact of its own on its rows:
+    // one function for the three would ask a fourth, which each has to show first.
     fn project(&self, row: usize, first: usize, end: usize, p: Point) -> Projection
         requires { Line self.now.lanes.now self.now.points.now self.now.cumulative.now row × (first < end)
             × (end < point_count self.now.lanes.now row) }

@@ -19,7 +19,7 @@ pub struct StationedLane<'a> {
 }
 
 // The last station at or before s, never the last of all.
-// One function for this and `geometry`'s `segment` would take the comparison as a closure, and its clauses are longer than the two.
+// No plainer as one `last_at<T: Real>` with `geometry`'s `segment`: `Real` has no `<=`, and the clauses would speak of `map T.float` of the list.
 fn station_before(stations: &[f64], s: f64) -> usize
     requires { (1 < length stations.now) × Rising stations.now }
     ensures { result ≡ segment_of stations.now s }
