@@ -227,12 +227,13 @@ fn ceiling(best: Option<Nearest>) -> f32
 }
 
 // Whether (d2, item) comes before the best so far; anything does before there is one.
+// Not by `<` of pairs: tried, and where all lanes lie on one line a query took 1.3 % more instructions.
 fn wins(d2: f32, item: usize, best: Option<Nearest>) -> bool
     ensures { WinsIs d2 item best result }
 {
     match best {
         None => true,
-        Some(b) => (d2, item) < (b.dist2, b.span),
+        Some(b) => d2 < b.dist2 || d2 == b.dist2 && item < b.span,
     }
 }
 
