@@ -148,10 +148,8 @@ fn arc_at(plan: &Plan, i: usize, p: usize, s: f64) -> f32
     ensures { result ≡ along_of (points_of plan.now.lanes.rows.now plan.now.lanes.points.now i)
         (stations_of plan.now.sections.now plan.now.stations.now (placed_section plan.now.places.now p)) s }
 {
-    let line = plan.lanes.line(i);
     let lane = StationedLane {
-        points: line.points,
-        cumulative: line.cumulative,
+        line: plan.lanes.line(i),
         stations: plan.stations(i, p),
     };
     lane.along(s)

@@ -130,13 +130,13 @@ fn end_arc(b: Branch, room: f64) -> f32
 
 // The lane position where a branch ends, on a lane with a place. It asks of one lane, so it takes the tables and no `Plan`.
 #[tactic(auto, unfolding(crate::specs::Ends::end_position))]
-fn end_position(
+fn end_position<'a>(
     lanes: &[usize],
-    points: &[f32],
-    cumulative: &[f32],
+    points: &'a [f32],
+    cumulative: &'a [f32],
     fans: &[usize],
     sections: &[usize],
-    stations: &[f64],
+    stations: &'a [f64],
     places: &[usize],
     ahead: bool,
     b: Branch,
@@ -147,10 +147,8 @@ fn end_position(
     ensures { result ≡ end_position lanes.now points.now fans.now sections.now stations.now places.now ahead b room }
 {
     let i = b.lane;
-    let line = branches::lane_line(lanes, points, cumulative, i);
     let lane = StationedLane {
-        points: line.points,
-        cumulative: line.cumulative,
+        line: branches::lane_line(lanes, points, cumulative, i),
         stations: branches::place_stations(sections, stations, places, fans[5 * i + 4]),
     };
     LanePosition {

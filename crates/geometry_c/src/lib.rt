@@ -127,57 +127,48 @@ pub extern "C" fn kartsodi_project(points: &[f32], cumulative: &[f32], p: Point)
 }
 
 #[unsafe(no_mangle)]
-pub extern "C" fn kartsodi_along(
-    points: &[f32],
-    cumulative: &[f32],
-    stations: &[f64],
+pub extern "C" fn kartsodi_along<'a>(
+    points: &'a [f32],
+    cumulative: &'a [f32],
+    stations: &'a [f64],
     s: f64,
 ) -> f32
     requires { Stationed points.now cumulative.now stations.now }
     ensures { result ≡ along_of points.now stations.now s }
 {
-    let lane = StationedLane {
-        points,
-        cumulative,
-        stations,
-    };
+    let line = Polyline { points, cumulative };
+    let lane = StationedLane { line, stations };
     lane.along(s)
 }
 
 #[unsafe(no_mangle)]
-pub extern "C" fn kartsodi_station_at(
-    points: &[f32],
-    cumulative: &[f32],
-    stations: &[f64],
+pub extern "C" fn kartsodi_station_at<'a>(
+    points: &'a [f32],
+    cumulative: &'a [f32],
+    stations: &'a [f64],
     arc: f32,
 ) -> f64
     requires { Stationed points.now cumulative.now stations.now }
     ensures { result ≡ station_of points.now stations.now arc }
 {
-    let lane = StationedLane {
-        points,
-        cumulative,
-        stations,
-    };
+    let line = Polyline { points, cumulative };
+    let lane = StationedLane { line, stations };
     lane.station_at(arc)
 }
 
 #[unsafe(no_mangle)]
-pub extern "C" fn kartsodi_centerline_s(
+pub extern "C" fn kartsodi_centerline_s<'a>(
     start: f64,
     end: f64,
-    points: &[f32],
-    cumulative: &[f32],
-    stations: &[f64],
+    points: &'a [f32],
+    cumulative: &'a [f32],
+    stations: &'a [f64],
     s: f64,
 ) -> Centerline
     requires { Stationed points.now cumulative.now stations.now }
     ensures { result ≡ as_centerline (centerline_of start end points.now stations.now s) }
 {
-    let lane = StationedLane {
-        points,
-        cumulative,
-        stations,
-    };
+    let line = Polyline { points, cumulative };
+    let lane = StationedLane { line, stations };
     Centerline::from(lane.centerline_s(start, end, s))
 }

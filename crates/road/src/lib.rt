@@ -8,14 +8,14 @@ ghost use Rattle.geometry.specs.Partition.{Rising};
 ghost use Rattle.geometry.specs.Locate.{segment_of};
 ghost use Rattle.road.specs.Along.{Stationed, fraction_at, along_of, reached_by, part_of, station_on, station_of, centerline_of};
 
-// A lane's points, and the arc length and the station of each.
-// The first two are no `Polyline` here: the borrow checker takes lists of different lifetimes in a struct, and not in a struct in it.
+use geometry::Polyline;
+
+// A lane's points with their arc lengths, and the station of each.
 #[derive(Clone, Copy)]
 pub struct StationedLane<'a> {
-    pub points: &'a [f32],
-    pub cumulative: &'a [f32],
+    pub line: Polyline<'a>,
     pub stations: &'a [f64],
-    pub ghost stationed: { Stationed points.now cumulative.now stations.now },
+    pub ghost stationed: { Stationed line.points.now line.cumulative.now stations.now },
 }
 
 // The last station at or before s, never the last of all.
@@ -73,27 +73,27 @@ impl StationedLane<'_> {
     // How far along the lane the road station s is, in metres from its first point.
     #[tactic(auto, using(crate::specs::AlongLaws::station_inside))]
     pub fn along(self, s: f64) -> f32
-        ensures { result ≡ along_of self.entry.points.now self.entry.stations.now s }
+        ensures { result ≡ along_of self.entry.line.points.now self.entry.stations.now s }
     {
         let i = station_before(self.stations, s);
         let part = float::nearest_f64_to_f32(fraction(self.stations, i, s));
-        self.cumulative[i] + geometry::segment_length(self.points, i) * part
+        self.line.cumulative[i] + geometry::segment_length(self.line.points, i) * part
     }
 
     // The road station `arc` metres along the lane from its first point, the inverse of `along`.
     #[tactic(auto, using(crate::specs::AlongLaws::reached_inside))]
     pub fn station_at(self, arc: f32) -> f64
-        ensures { result ≡ station_of self.entry.points.now self.entry.stations.now arc }
+        ensures { result ≡ station_of self.entry.line.points.now self.entry.stations.now arc }
     {
-        let i = reached(self.cumulative, arc);
-        let len = geometry::segment_length(self.points, i);
-        station_on(self.stations, i, part(len, self.cumulative[i], arc))
+        let i = reached(self.line.cumulative, arc);
+        let len = geometry::segment_length(self.line.points, i);
+        station_on(self.stations, i, part(len, self.line.cumulative[i], arc))
     }
 
     // How far along the centerline the station s is, where it lies from `start` to `end` of the lane's section.
     #[tactic(auto, unfolding(crate::specs::Along::centerline_of))]
     pub fn centerline_s(self, start: f64, end: f64, s: f64) -> Option<f32>
-        ensures { result ≡ centerline_of start end self.entry.points.now self.entry.stations.now s }
+        ensures { result ≡ centerline_of start end self.entry.line.points.now self.entry.stations.now s }
     {
         if start <= s && s <= end {
             Some(self.along(s))
