@@ -3,7 +3,7 @@
 // What needs one list alone takes that list, or is a method of `ArcLengths` where they have to rise; what needs both is a method of `Polyline`.
 #![tactic(auto)]
 
-ghost use Rattle.std.specs.Prelude.{◌≡◌, ℕ, ◌+◌, ◌*◌, ◌<◌, ◌≤◌, length};
+ghost use Rattle.std.specs.Prelude.{◌≡◌, ◌+◌, ◌*◌, ◌<◌, ◌≤◌, length};
 ghost use Rattle.geometry.specs.Polyline.{Line, point_at, vector_at, segment_length, cumulative_of, arc_length};
 ghost use Rattle.geometry.specs.Polyline.{horizontal, direction_of, outgoing_at, end_or, with_vector, tangents_of};
 ghost use Rattle.geometry.specs.Partition.{Rising};
@@ -164,20 +164,23 @@ fn end_or(chord: Vector, ends: Option<Ends>, n: usize, i: usize) -> Vector
     }
 }
 
-// Writes v as entry i of a list of vectors.
+// Writes v as entry i of a list of vectors. By `lists::put_row`, tried, `write_tangents` took 3.5 % more instructions.
 fn write_vector(to: &mut [f32], i: usize, v: Vector)
     requires { 3 * i + 2 < length to.old }
     ensures { to.new ≡ with_vector to.old i v }
 {
-    lists::put_row(&[v.x, v.y, v.z], to, 3 * i);
+    let k = 3 * i;
+    to[k] = v.x;
+    to[k + 1] = v.y;
+    to[k + 2] = v.z;
 }
 
-// Writes the tangent at each of the first n points, where `tangents` has three entries for each. C's list of points may hold more.
-pub fn write_tangents(points: &[f32], ends: Option<Ends>, tangents: &mut [f32])
-    requires { length tangents.old ≤ length points.now }
-    ensures { (n : ℕ) → length tangents.old ≡ 3 * n → tangents.new ≡ tangents_of points.now n ends }
+// Writes the tangent at each of n points; C gives n, since its list of points may hold more. With n as `tangents.len() / 3`, tried, it took 4 % more
+// instructions.
+pub fn write_tangents(points: &[f32], n: usize, ends: Option<Ends>, tangents: &mut [f32])
+    requires { (3 * n ≤ length points.now) × (length tangents.old ≡ 3 * n) }
+    ensures { tangents.new ≡ tangents_of points.now n ends }
 {
-    let n = tangents.len() / 3;
     let mut incoming = Vector::ZERO;
     for i in 0..n {
         let out = outgoing(points, n, i);

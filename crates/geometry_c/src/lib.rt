@@ -72,7 +72,7 @@ pub extern "C" fn kartsodi_write_tangents(
     requires { (3 * n ≤ length points.now) × (length tangents.old ≡ 3 * n) }
     ensures { tangents.new ≡ tangents_of points.now n (ends_given ends) }
 {
-    geometry::write_tangents(points, ends.into(), tangents);
+    geometry::write_tangents(points, n, ends.into(), tangents);
 }
 
 #[unsafe(no_mangle)]

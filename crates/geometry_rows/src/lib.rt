@@ -33,7 +33,7 @@ fn write_lane_tangents(
 {
     let from = 3 * first;
     let to = 3 * (first + count);
-    write_tangents(&points[from..to], ends, &mut tangents[from..to]);
+    write_tangents(&points[from..to], count, ends, &mut tangents[from..to]);
 }
 
 // The tangents at the two ends of lane i, where it gives them.

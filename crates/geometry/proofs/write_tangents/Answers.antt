@@ -1,5 +1,4 @@
 -- `write_tangents` writes front to back, and hands the direction of each segment on from the point where it starts to the one where it ends.
-use Rattle.std.specs.Prelude.{ℕ, length, ◌/◌}
 use Rattle.std.proofs.Common.{◌≡◌, refl, ap, ap₂, ◌∙◌, arith}
 use Rattle.coords.specs.declared.Vector.{Vector}
 use Rattle.coords.specs.Coords.{plus_of, normalize_or, zero_vector}
@@ -16,26 +15,23 @@ pub loop-i-preserved : goal.loop-i-preserved
 unfolding chord_at
 loop-i-preserved c =
     let a = c.args in
-    let n = length a.tangents.now / 3 in
     let l = c.loop-i in
     let ps = a.points.now in
     let sum = c.add.ensures ∙ ap₂ plus_of (l.invariant.handed_on c.loop-i-test.true) c.outgoing-out.ensures in
-    let chord : c.normalize_or_zero-chord.result ≡ chord_at ps n l.i =
+    let chord : c.normalize_or_zero-chord.result ≡ chord_at ps a.n l.i =
     c.normalize_or_zero-chord.ensures ∙ ap (λ (v : Vector). normalize_or v zero_vector) sum in
-    let tangent = c.end_or.ensures ∙ ap (λ (v : Vector). end_or v a.ends n l.i) chord in
+    let tangent = c.end_or.ensures ∙ ap (λ (v : Vector). end_or v a.ends a.n l.i) chord in
     record {
-      handed_on = λ h. c.outgoing-out.ensures ∙ incoming_next ps n l.i h;
+      handed_on = λ h. c.outgoing-out.ensures ∙ incoming_next ps a.n l.i h;
       written = c.write_vector.ensures
-          ∙ tangents_next ps n a.ends a.tangents.now l.tangents l.i c.end_or.result (omega arith) l.invariant.written tangent;
+          ∙ tangents_next ps a.n a.ends a.tangents.now l.tangents l.i c.end_or.result (omega arith) l.invariant.written tangent;
     }
 
 pub returns : goal.returns
 returns c =
     let a = c.args in
     let l = c.loop-i in
-    let ps = a.points.now in λ n e.
-    let size : length a.tangents.now / 3 ≡ n = omega arith in
-    let all : l.i ≡ n = omega arith in
-    let long = length_tangents ps (length a.tangents.now / 3) a.ends l.i in
-    l.invariant.written ∙ over_whole (tangents_to ps (length a.tangents.now / 3) a.ends l.i) a.tangents.now (omega arith)
-    ∙ ap₂ (λ (m k : ℕ). tangents_to ps m a.ends k) size all
+    let ps = a.points.now in
+    let n : l.i ≡ a.n = omega arith in
+    let long = length_tangents ps a.n a.ends l.i in
+    l.invariant.written ∙ over_whole (tangents_to ps a.n a.ends l.i) a.tangents.now (omega arith) ∙ ap (tangents_to ps a.n a.ends) n
