@@ -5,7 +5,7 @@
 ghost use Rattle.std.specs.Prelude.{◌≡◌, ◌*◌, ◌<◌, ◌≤◌, [], length, reverse};
 ghost use Rattle.geometry.specs.Over.{over};
 ghost use Rattle.road.specs.Along.{along_of};
-ghost use Rattle.rows.specs.Rows.{place_of, placed_section, points_of, stations_of};
+ghost use Rattle.rows.specs.Rows.{placed_section, points_of, stations_of};
 ghost use Rattle.branches.specs.Tables.{Bounded};
 ghost use Rattle.branches.specs.Held.{tables_of};
 ghost use Rattle.explore.specs.Held.{state_of};
@@ -14,7 +14,7 @@ ghost use Rattle.advance.specs.Advance.{advanced_of, answered};
 ghost use Rattle.advance.specs.Advance.{AnswerOf, advance_rows};
 
 use beside::{Direction, LanePosition};
-use branches::{Branch, Front, Lanes, Plan};
+use branches::{Branch, Front, Lanes, Placed, Plan};
 use ends::{Advance, Found};
 use explore::State;
 use plan_format::Refusal;
@@ -142,15 +142,14 @@ fn search(
     answer(&state, rows, positions)
 }
 
-// How far along lane i, with the place p, the station s of its section is.
-fn arc_at(plan: &Plan, i: usize, p: usize, s: f64) -> f32
-    requires { (i < plan.now.lanes.count) × (p ≡ place_of plan.now.fans.now i) × (p < plan.now.place_count) }
-    ensures { result ≡ along_of (points_of plan.now.lanes.rows.now plan.now.lanes.points.now i)
-        (stations_of plan.now.sections.now plan.now.stations.now (placed_section plan.now.places.now p)) s }
+// How far along its lane the station s of a place's section is.
+fn arc_at(at: &Placed, s: f64) -> f32
+    ensures { result ≡ along_of (points_of at.now.plan.lanes.rows.now at.now.plan.lanes.points.now at.now.lane)
+        (stations_of at.now.plan.sections.now at.now.plan.stations.now (placed_section at.now.plan.places.now at.now.row)) s }
 {
     let lane = StationedLane {
-        line: plan.lanes.line(i),
-        stations: plan.stations(i, p),
+        line: at.plan.lanes.line(at.lane),
+        stations: at.stations(),
     };
     lane.along(s)
 }
@@ -172,8 +171,8 @@ pub fn advance(
 {
     let lanes = plan.lanes;
     let i = plan_find::find_lane(from.lane, lanes.rows, lanes.count).ok_or(Refusal::NotOnALane)?;
-    let p = plan.place(i).ok_or(Refusal::NotOnALane)?;
-    if !beside::is_in_section(bounds, plan.section(i, p), from.s) {
+    let at = plan.place(i).ok_or(Refusal::NotOnALane)?;
+    if !beside::is_in_section(bounds, at.section(), from.s) {
         return Err(Refusal::NotOnALane);
     }
     if !float::is_finite(distance) {
@@ -181,7 +180,7 @@ pub fn advance(
     }
     let start = Start {
         lane: i,
-        arc: arc_at(plan, i, p, from.s),
+        arc: arc_at(&at, from.s),
         offset: from.offset,
         distance,
     };

@@ -93,7 +93,8 @@ impl From<Result<LanePosition, Refusal>> for BesideAnswer {
     }
 }
 
-// The tables by which the lane beside is found, of an accepted plan with so many lanes and places.
+// The tables by which the lane beside is found, of an accepted plan with so many lanes and places. C gives the counts apart; a list may hold more
+// rows.
 #[derive(Clone, Copy)]
 pub struct Seats<'a> {
     pub lanes: &'a [usize],
@@ -219,7 +220,7 @@ pub fn beside(seats: Seats, at: LanePosition, side: usize) -> Result<LanePositio
     }
 }
 
-// The lane on the left of `at`'s traffic, by the Rust's name.
+// The lane on the left of `at`'s traffic. Two functions, since `left_of` is the name that the Rust and the papers give.
 pub fn left_of(seats: Seats, at: LanePosition) -> Result<LanePosition, Refusal>
     ensures { answer_of result ≡ beside_rows seats.entry.lanes.now seats.entry.lane_count seats.entry.fans.now seats.entry.places.now
         seats.entry.place_count seats.entry.bounds.now at 0 }
@@ -227,7 +228,7 @@ pub fn left_of(seats: Seats, at: LanePosition) -> Result<LanePosition, Refusal>
     seats.lane_beside(at, Side::Left)
 }
 
-// The lane on the right of `at`'s traffic, by the Rust's name.
+// The lane on the right of `at`'s traffic. Two functions, since `right_of` is the name that the Rust and the papers give.
 pub fn right_of(seats: Seats, at: LanePosition) -> Result<LanePosition, Refusal>
     ensures { answer_of result ≡ beside_rows seats.entry.lanes.now seats.entry.lane_count seats.entry.fans.now seats.entry.places.now
         seats.entry.place_count seats.entry.bounds.now at 1 }

@@ -75,7 +75,7 @@ pub fn room(up: bool, len: f32, arc: f32) -> f64
     float::f32_to_f64(if up { len - arc } else { arc })
 }
 
-// The length of lane i; not a method of `Lanes` alone, since a route reads lengths where no points are lent.
+// The length of lane i. It asks of one lane alone, so it stands beside the method.
 pub fn lane_length(lanes: &[usize], cumulative: &[f32], i: usize) -> f32
     requires { (6 * i + 5 < length lanes.now) × (end_point lanes.now i ≤ length cumulative.now)
         × (0 < length (arcs_of lanes.now cumulative.now i)) }
@@ -204,7 +204,7 @@ pub fn link_count(fans: &[usize], ahead: bool, i: usize) -> usize
     fans[if ahead { 5 * i + 1 } else { 5 * i + 2 }]
 }
 
-// The lanes of an accepted plan: their rows, the points of their lines and the arc length at each.
+// The lanes of an accepted plan: their rows, the points of their lines and the arc length at each. C gives the count apart; a list may hold more.
 // A lane is its row, a plain index as in the Rust, so each method asks that it is one of `count`: a type of checked rows would be of these lanes
 // alone, and made anew at each call.
 #[derive(Clone, Copy)]
@@ -422,7 +422,7 @@ impl Front {
     }
 }
 
-// The tables of an accepted plan that an advance reads, with so many places.
+// The tables of an accepted plan that an advance reads, with so many places. C gives their count apart; a list may hold more rows.
 #[derive(Clone, Copy)]
 pub struct Plan<'a> {
     pub lanes: Lanes<'a>,
@@ -437,32 +437,18 @@ pub struct Plan<'a> {
 }
 
 impl<'a> Plan<'a> {
-    // The row of lane i's place, if it has one.
-    pub fn place(&self, i: usize) -> Option<usize>
+    // The place of lane i, if it has one.
+    pub fn place(&self, i: usize) -> Option<Placed<'a>>
         requires { i < self.now.lanes.count }
         ensures { MatchOption result (self.now.place_count ≤ place_of self.now.fans.now i)
-            (λ p. (p ≡ place_of self.now.fans.now i) × (p < self.now.place_count)) }
+            (λ p. (p.plan ≡ self.now) × (p.lane ≡ i) × (p.row ≡ place_of self.now.fans.now i) × (p.row < self.now.place_count)) }
     {
-        beside::place_row(self.fans, self.place_count, i)
-    }
-
-    // The row of the section of place p, that of lane i.
-    pub fn section(&self, i: usize, p: usize) -> usize
-        requires { (i < self.now.lanes.count) × (p ≡ place_of self.now.fans.now i) × (p < self.now.place_count) }
-        ensures { result ≡ placed_section self.now.places.now p }
-    {
-        let places = self.places;
-        places[3 * p + 1]
-    }
-
-    // The stations of that section, one for each point of the lane.
-    pub fn stations(&self, i: usize, p: usize) -> &'a [f64]
-        requires { (i < self.now.lanes.count) × (p ≡ place_of self.now.fans.now i) × (p < self.now.place_count) }
-        ensures stations { result.now ≡ stations_of self.now.sections.now self.now.stations.now (placed_section self.now.places.now p) }
-        ensures stationed { Stationed (points_of self.now.lanes.rows.now self.now.lanes.points.now i)
-            (arcs_of self.now.lanes.rows.now self.now.lanes.cumulative.now i) result.now }
-    {
-        place_stations(self.sections, self.stations, self.places, p)
+        let row = beside::place_row(self.fans, self.place_count, i)?;
+        Some(Placed {
+            plan: *self,
+            lane: i,
+            row,
+        })
     }
 
     // The row after the links that are followed from lane i: successors ahead, predecessors back.
@@ -479,5 +465,36 @@ impl<'a> Plan<'a> {
         ensures { result ≡ link_count self.now.fans.now ahead i }
     {
         link_count(self.fans, ahead, i)
+    }
+}
+
+// A lane that has a place, and the row of that.
+#[derive(Clone, Copy)]
+pub struct Placed<'a> {
+    pub plan: Plan<'a>,
+    pub lane: usize,
+    pub row: usize,
+    pub ghost there: { (lane < plan.lanes.count) × (row ≡ place_of plan.fans.now lane) × (row < plan.place_count) },
+}
+
+impl<'a> Placed<'a> {
+    // The row of its section.
+    pub fn section(&self) -> usize
+        ensures { result ≡ placed_section self.now.plan.places.now self.now.row }
+    {
+        let places = self.plan.places;
+        let p = self.row;
+        places[3 * p + 1]
+    }
+
+    // The stations of that section, one for each point of the lane.
+    pub fn stations(&self) -> &'a [f64]
+        ensures stations { result.now ≡ stations_of self.now.plan.sections.now self.now.plan.stations.now
+            (placed_section self.now.plan.places.now self.now.row) }
+        ensures stationed { Stationed (points_of self.now.plan.lanes.rows.now self.now.plan.lanes.points.now self.now.lane)
+            (arcs_of self.now.plan.lanes.rows.now self.now.plan.lanes.cumulative.now self.now.lane) result.now }
+    {
+        let plan = self.plan;
+        place_stations(plan.sections, plan.stations, plan.places, self.row)
     }
 }

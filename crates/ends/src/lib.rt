@@ -2,10 +2,11 @@
 // holds the places.
 #![tactic(auto)]
 
-ghost use Rattle.std.specs.Prelude.{◌≡◌, ◌+◌, ◌*◌, ◌<◌, ◌≤◌, [], length, reverse, set};
+ghost use Rattle.std.specs.Prelude.{◌≡◌, ◌+◌, ◌*◌, ◌<◌, ◌≤◌, ℕ, List, [], length, reverse, set};
 ghost use Rattle.std.specs.List.{list_any};
 ghost use Rattle.std.specs.Float.{nan};
 ghost use Rattle.arrayvec.specs.ArrayVec.{array_vec_len};
+ghost use Rattle.beside.specs.Beside.{nowhere};
 ghost use Rattle.rows.specs.Rows.{place_of};
 ghost use Rattle.branches.specs.Tables.{Ending, Laid};
 ghost use Rattle.ends.specs.Ends.{case_of, position_of, short_of, placing_of, end_arc, end_position, end_of, give, place, place_in, same_placing};
@@ -13,6 +14,7 @@ ghost use Rattle.ends.specs.Ends.{case_of, position_of, short_of, placing_of, en
 use arrayvec::ArrayVec;
 use beside::LanePosition;
 use branches::{Branch, Plan};
+use lists::put_row;
 use plan_format::LaneId;
 use road::StationedLane;
 
@@ -23,14 +25,18 @@ pub enum Advance {
     DeadEnd { at: LanePosition, short: f64 },
 }
 
-// What stands in the places of a `Found` that hold none yet.
+// What stands in the places of a `Found` that hold none yet. By hand: a derive takes a variant without fields, and both have some.
 impl Default for Advance {
+    ghost use Rattle.ends.specs.declared.Advance.TheVariants.{Reached};
+
+    ghost is_default = { λ a. a ≡ Reached nowhere };
+
     fn default() -> Self {
         Advance::Reached(LanePosition::default())
     }
 }
 
-// By what places are told apart; the case by document 01's number, as an answer has it.
+// By what places are told apart; the case by document 01's number, as the definition has it: an enum would repeat the cases of `Advance`.
 #[derive(Clone, Copy, PartialEq, Eq)]
 pub struct Placing {
     pub case: usize,
@@ -98,6 +104,7 @@ impl Advance {
     }
 
     // Writes the place as row i of the lists: case and lane; s, offset and metres short.
+    #[tactic(auto, using(crate::specs::EndLaws::row_of_two, crate::specs::EndLaws::row_of_three))]
     pub fn write(self, rows: &mut [usize], positions: &mut [f64], i: usize)
         requires { (2 * i + 1 < length rows.old) × (3 * i + 2 < length positions.old) }
         ensures rows { rows.new ≡ set (set rows.old (2 * i) (case_of self)) (2 * i + 1) (position_of self).lane.0 }
@@ -106,13 +113,8 @@ impl Advance {
     {
         let at = self.position();
         let lane = at.lane;
-        let k = 2 * i;
-        rows[k] = self.case();
-        rows[k + 1] = lane.0;
-        let j = 3 * i;
-        positions[j] = at.s;
-        positions[j + 1] = at.offset;
-        positions[j + 2] = self.short();
+        put_row(&[self.case(), lane.0], rows, 2 * i);
+        put_row(&[at.s, at.offset, self.short()], positions, 3 * i);
     }
 }
 
@@ -128,28 +130,41 @@ fn end_arc(b: Branch, room: f64) -> f32
     b.arc - moved
 }
 
-// The lane position where a branch ends, on a lane with a place. It asks of one lane, so it takes the tables and no `Plan`.
+// The lane position where a branch ends, on a lane with the place p. It asks of one lane, so it takes the tables and no `Plan`.
 #[tactic(auto, unfolding(crate::specs::Ends::end_position))]
 fn end_position<'a>(
     lanes: &[usize],
+<<<<<<< HEAD
     points: &'a [f32],
     cumulative: &'a [f32],
     fans: &[usize],
+=======
+    points: &[f32],
+    cumulative: &[f32],
+>>>>>>> 8a39a16 (branches: a place with its lane; ends: rows written by put_row, the default has its law; beside, branches: reasons)
     sections: &[usize],
     stations: &'a [f64],
     places: &[usize],
+    p: usize,
     ahead: bool,
     b: Branch,
     room: f64,
 ) -> LanePosition
-    requires { Laid lanes.now points.now cumulative.now b.lane × (5 * b.lane + 4 < length fans.now)
-        × Ending lanes.now points.now cumulative.now sections.now stations.now places.now b.lane (place_of fans.now b.lane) }
-    ensures { result ≡ end_position lanes.now points.now fans.now sections.now stations.now places.now ahead b room }
+    requires { Laid lanes.now points.now cumulative.now b.lane
+        × Ending lanes.now points.now cumulative.now sections.now stations.now places.now b.lane p }
+    ensures { (fans : List ℕ) → p ≡ place_of fans b.lane
+        → result ≡ end_position lanes.now points.now fans sections.now stations.now places.now ahead b room }
 {
     let i = b.lane;
     let lane = StationedLane {
+<<<<<<< HEAD
         line: branches::lane_line(lanes, points, cumulative, i),
         stations: branches::place_stations(sections, stations, places, fans[5 * i + 4]),
+=======
+        points: line.points,
+        cumulative: line.cumulative,
+        stations: branches::place_stations(sections, stations, places, p),
+>>>>>>> 8a39a16 (branches: a place with its lane; ends: rows written by put_row, the default has its law; beside, branches: reasons)
     };
     LanePosition {
         lane: LaneId(lanes[6 * i]),
@@ -235,11 +250,11 @@ impl Found {
             (found_of self.old) }
         ensures one { array_vec_len self.new.out ≤ array_vec_len self.old.out + 1 }
     {
-        if beside::place_row(fans, m, b.lane).is_none() {
+        let Some(p) = beside::place_row(fans, m, b.lane) else {
             return;
-        }
+        };
         let at = end_position(
-            lanes, points, cumulative, fans, sections, stations, places, ahead, b, room,
+            lanes, points, cumulative, sections, stations, places, p, ahead, b, room,
         );
         self.give(end_of(b.remaining, room, at));
     }
