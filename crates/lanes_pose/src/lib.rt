@@ -14,25 +14,28 @@ use tables::open;
 
 // The pose from the front of each table, n lanes with m points.
 // The tables one by one, as the call has them: a struct here would be made for one use.
-fn pose_from(
+#[tactic(auto, using(pose::specs::Laws::laid))]
+fn pose_from<'a>(
     lane: LaneId,
     s: f32,
     n: usize,
     m: usize,
-    lanes: &[usize],
-    points: &[f32],
-    cumulative: &[f32],
-    tangents: &[f32],
+    lanes: &'a [usize],
+    points: &'a [f32],
+    cumulative: &'a [f32],
+    tangents: &'a [f32],
 ) -> Result<Pose, Refusal>
     requires { PoseFronts n m lanes.now points.now cumulative.now tangents.now }
     ensures { posed_by result ≡ pose_row lane.0 s n (take (6 * n) lanes.now) (take (3 * m) points.now)
         (take m cumulative.now) (take (3 * m) tangents.now) }
 {
     let rows = Lanes {
-        count: n,
-        rows: &lanes[..6 * n],
-        points: &points[..3 * m],
-        cumulative: &cumulative[..m],
+        lanes: branches::Lanes {
+            rows: &lanes[..6 * n],
+            count: n,
+            points: &points[..3 * m],
+            cumulative: &cumulative[..m],
+        },
         tangents: &tangents[..3 * m],
     };
     rows.pose(lane, s)

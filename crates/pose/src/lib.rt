@@ -6,7 +6,7 @@ ghost use Rattle.geometry.specs.Locate.{pose_along};
 ghost use Rattle.rows.specs.Rows.{arcs_of, points_of, tangents_of};
 ghost use Rattle.pose.specs.Lanes.{posed_by, pose_row, Polyline, Polylines};
 
-use geometry::{Polyline, Pose};
+use geometry::Pose;
 use plan_find::find_lane;
 use plan_format::{LaneId, Refusal};
 
@@ -32,42 +32,38 @@ impl From<Result<Pose, Refusal>> for Posed {
     }
 }
 
-// The lanes of a plan with their polylines: a row for each lane, and for each point its place, its arc length and its tangent.
-// Not the struct of `nearest` or of `branches`: neither is lent tangents. One of theirs within this one would have to stand in a crate below, apart
-// from the methods that `branches` has for it.
+// The lanes of a plan with the tangents at their points.
 #[derive(Clone, Copy)]
 pub struct Lanes<'a> {
-    pub count: usize,
-    pub rows: &'a [usize],
-    pub points: &'a [f32],
-    pub cumulative: &'a [f32],
+    pub lanes: branches::Lanes<'a>,
     pub tangents: &'a [f32],
-    pub ghost polylines: { Polylines count rows.now points.now cumulative.now tangents.now },
+    pub ghost polylines: { Polylines lanes.count lanes.rows.now lanes.points.now lanes.cumulative.now tangents.now },
 }
 
 impl<'a> Lanes<'a> {
     // The pose on the lane of row i.
     fn pose_on(&self, i: usize, s: f32) -> Pose
-        requires { i < self.now.count }
-        ensures { result ≡ pose_along (points_of self.now.rows.now self.now.points.now i)
-            (arcs_of self.now.rows.now self.now.cumulative.now i) (tangents_of self.now.rows.now self.now.tangents.now i) s }
+        requires { i < self.now.lanes.count }
+        ensures { result ≡ pose_along (points_of self.now.lanes.rows.now self.now.lanes.points.now i)
+            (arcs_of self.now.lanes.rows.now self.now.lanes.cumulative.now i)
+            (tangents_of self.now.lanes.rows.now self.now.tangents.now i) s }
     {
-        let first = self.rows[6 * i + 4];
-        let end = first + self.rows[6 * i + 5];
-        let line = Polyline {
-            points: &self.points[3 * first..3 * end],
-            cumulative: &self.cumulative[first..end],
-        };
+        let lanes = self.lanes;
+        let rows = lanes.rows;
+        let first = rows[6 * i + 4];
+        let end = first + rows[6 * i + 5];
+        let line = lanes.line(i);
         line.pose_at(&self.tangents[3 * first..3 * end], s)
     }
 
     // The pose on a lane at the arc length s, which is clamped to the lane; 12 for a lane that is not among the rows. A NaN s is not clamped:
     // it lies on the first segment and gives a NaN position with a zero heading, or that segment's start where it is at most 1e-6 long.
     pub fn pose(&self, lane: LaneId, s: f32) -> Result<Pose, Refusal>
-        ensures { posed_by result ≡ pose_row lane.0 s self.now.count self.now.rows.now self.now.points.now self.now.cumulative.now
-            self.now.tangents.now }
+        ensures { posed_by result ≡ pose_row lane.0 s self.now.lanes.count self.now.lanes.rows.now self.now.lanes.points.now
+            self.now.lanes.cumulative.now self.now.tangents.now }
     {
-        let i = find_lane(lane, self.rows, self.count).ok_or(Refusal::NotOnALane)?;
+        let lanes = self.lanes;
+        let i = find_lane(lane, lanes.rows, lanes.count).ok_or(Refusal::NotOnALane)?;
         Ok(self.pose_on(i, s))
     }
 }

@@ -24,7 +24,7 @@ returns-in_err-i c =
     let row = sym (ap (λ (o : Option ℕ). unwrap_or o 256) none) ∙ c.find_lane.ensures.row in
     let p = err_from_is_err_and c.from_residual.result c.from_residual.ensures.1 in
     rw (p.1, p.2, refused_by _ c.in_err-i.ensures.value)
-    (unknown a.lane.0 a.s s.count s.rows.now s.points.now s.cumulative.now s.tangents.now 256 row refl _ refl)
+    (unknown a.lane.0 a.s s.lanes.count s.lanes.rows.now s.lanes.points.now s.lanes.cumulative.now s.tangents.now 256 row refl _ refl)
 
 pub returns : goal.returns
 returns c =
@@ -34,5 +34,5 @@ returns c =
     let found = rw c.in_ok-i.ensures.ok_part at c.find_lane.ensures.found in
     let below = found.0 in
     let row = sym (ap (λ (o : Option ℕ). unwrap_or o 256) c.in_ok-i.ensures.ok_part) ∙ c.find_lane.ensures.row in
-    known a.lane.0 a.s s.count s.rows.now s.points.now s.cumulative.now s.tangents.now c.in_ok-i.i row
+    known a.lane.0 a.s s.lanes.count s.lanes.rows.now s.lanes.points.now s.lanes.cumulative.now s.tangents.now c.in_ok-i.i row
     (λ q. absurd (omega arith)) c.pose_on.result c.pose_on.ensures
