@@ -104,7 +104,6 @@ impl Advance {
     }
 
     // Writes the place as row i of the lists: case and lane; s, offset and metres short.
-    #[tactic(auto, using(crate::specs::EndLaws::row_of_two, crate::specs::EndLaws::row_of_three))]
     pub fn write(self, rows: &mut [usize], positions: &mut [f64], i: usize)
         requires { (2 * i + 1 < length rows.old) × (3 * i + 2 < length positions.old) }
         ensures rows { rows.new ≡ set (set rows.old (2 * i) (case_of self)) (2 * i + 1) (position_of self).lane.0 }
