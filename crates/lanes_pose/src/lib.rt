@@ -14,7 +14,6 @@ use tables::open;
 
 // The pose from the front of each table, n lanes with m points.
 // The tables one by one, as the call has them: a struct here would be made for one use.
-#[tactic(auto, using(pose::specs::Laws::laid))]
 fn pose_from<'a>(
     lane: LaneId,
     s: f32,

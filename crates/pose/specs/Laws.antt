@@ -5,7 +5,6 @@ use Rattle.std.proofs.Math.Path.{ap, refl}
 use Rattle.std.proofs.Common.{◌∙◌, arith, length-drop, length-take}
 use Rattle.std.proofs.Math.Dec.{eqb}
 use borrow.Author.Tests.{eq-eqb, eqb-false, ne_eqb}
-use Rattle.branches.specs.Tables.{AllLaid}
 use Rattle.geometry.specs.Locate.{pose_along}
 use Rattle.geometry.specs.declared.Pose.{Pose}
 use Rattle.plan.specs.Accepted.{Accepted}
@@ -52,13 +51,6 @@ module _ (n : ℕ) (s : Float) (k : ℕ) (lanes : List ℕ) (points cumulative t
 module _ (lanes : List ℕ) (points cumulative tangents : List Float) (i : ℕ) (P : Polyline lanes points cumulative tangents i) where
   pub tangents_long : length (tangents_of lanes tangents i) ≡ length (points_of lanes points i)
   tangents_long = simp (length-take, length-drop) (omega (arith, P.points_there, P.tangents_there))
-
--- the lanes without their tangents
-pub laid : (k : ℕ) (lanes : List ℕ) (points cumulative tangents : List Float) → Polylines k lanes points cumulative tangents
-    → AllLaid lanes k points cumulative
-laid k lanes points cumulative tangents P i h =
-    let at = P.each i h in
-    record { lane_row = omega arith; arcs_end = at.arcs_there; points_end = at.points_there; line = at.line; rising = at.rising }
 
 -- ---- an accepted plan
 module _ (p : Plan) (A : Accepted p) where
