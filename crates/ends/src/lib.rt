@@ -133,14 +133,8 @@ fn end_arc(b: Branch, room: f64) -> f32
 #[tactic(auto, unfolding(crate::specs::Ends::end_position))]
 fn end_position<'a>(
     lanes: &[usize],
-<<<<<<< HEAD
     points: &'a [f32],
     cumulative: &'a [f32],
-    fans: &[usize],
-=======
-    points: &[f32],
-    cumulative: &[f32],
->>>>>>> 8a39a16 (branches: a place with its lane; ends: rows written by put_row, the default has its law; beside, branches: reasons)
     sections: &[usize],
     stations: &'a [f64],
     places: &[usize],
@@ -156,14 +150,8 @@ fn end_position<'a>(
 {
     let i = b.lane;
     let lane = StationedLane {
-<<<<<<< HEAD
         line: branches::lane_line(lanes, points, cumulative, i),
-        stations: branches::place_stations(sections, stations, places, fans[5 * i + 4]),
-=======
-        points: line.points,
-        cumulative: line.cumulative,
         stations: branches::place_stations(sections, stations, places, p),
->>>>>>> 8a39a16 (branches: a place with its lane; ends: rows written by put_row, the default has its law; beside, branches: reasons)
     };
     LanePosition {
         lane: LaneId(lanes[6 * i]),
