@@ -10,7 +10,7 @@ ghost use Rattle.plan_format.specs.Records.{advance_at, beside_at, query_at, rou
 
 use fields::{f32_at, f64_at, u8_at, u16_at};
 use plan_format::{Kind, LaneId, Query};
-use plan_scan::WholeRecord;
+use plan_scan::{KnownRecord, WholeRecord};
 
 // The kind with this number, where it is a query's.
 fn query_kind(number: usize) -> Option<Kind>
@@ -19,10 +19,11 @@ fn query_kind(number: usize) -> Option<Kind>
     Kind::try_from(number).ok().filter(|kind| kind.is_query())
 }
 
-fn route_at(file: &[u8], at: usize) -> Query
-    requires { at + 30 ≤ length file.now }
-    ensures { result ≡ route_at file.now at }
+fn route_at(found: &WholeRecord) -> Query
+    requires { found.now.size ≡ 24 }
+    ensures { result ≡ route_at found.now.file.now found.now.at }
 {
+    let WholeRecord { file, at, .. } = *found;
     Query::Route(
         f32_at(file, at + 6),
         f32_at(file, at + 10),
@@ -33,10 +34,11 @@ fn route_at(file: &[u8], at: usize) -> Query
     )
 }
 
-fn advance_at(file: &[u8], at: usize) -> Query
-    requires { at + 32 ≤ length file.now }
-    ensures { result ≡ advance_at file.now at }
+fn advance_at(found: &WholeRecord) -> Query
+    requires { found.now.size ≡ 26 }
+    ensures { result ≡ advance_at found.now.file.now found.now.at }
 {
+    let WholeRecord { file, at, .. } = *found;
     Query::Advance(
         LaneId(u16_at(file, at + 6)),
         f64_at(file, at + 8),
@@ -45,10 +47,11 @@ fn advance_at(file: &[u8], at: usize) -> Query
     )
 }
 
-fn beside_at(file: &[u8], at: usize) -> Query
-    requires { at + 17 ≤ length file.now }
-    ensures { result ≡ beside_at file.now at }
+fn beside_at(found: &WholeRecord) -> Query
+    requires { found.now.size ≡ 11 }
+    ensures { result ≡ beside_at found.now.file.now found.now.at }
 {
+    let WholeRecord { file, at, .. } = *found;
     Query::Beside(
         LaneId(u16_at(file, at + 6)),
         f64_at(file, at + 8),
@@ -56,18 +59,17 @@ fn beside_at(file: &[u8], at: usize) -> Query
     )
 }
 
-// The query of a record whose length fits.
+// The query of a query's record.
 #[tactic(auto, unfolding(plan_format::specs::Records::query_at, plan_format::specs::Plan::fits))]
-fn query_at(found: &WholeRecord, kind: Kind) -> Query
-    requires { (kind_number kind ≡ u16_at found.now.file.now (found.now.at + 4))
-        × (fits found.now.file.now found.now.at (kind_number kind) found.now.size ≡ true)
-        × (is_query (kind_number kind) ≡ true) }
-    ensures { result ≡ query_at found.now.file.now found.now.at }
+fn query_at(known: &KnownRecord) -> Query
+    requires { (kind_number known.now.kind ≡ u16_at known.now.whole.file.now (known.now.whole.at + 4))
+        × (is_query (kind_number known.now.kind) ≡ true) }
+    ensures { result ≡ query_at known.now.whole.file.now known.now.whole.at }
 {
-    match kind {
-        Kind::Route => route_at(found.file, found.at),
-        Kind::Advance => advance_at(found.file, found.at),
-        _ => beside_at(found.file, found.at),
+    match known.kind {
+        Kind::Route => route_at(&known.whole),
+        Kind::Advance => advance_at(&known.whole),
+        _ => beside_at(&known.whole),
     }
 }
 
@@ -81,10 +83,10 @@ pub fn next_query(file: &[u8], first: usize) -> Option<(Query, usize)>
     while let Some(found) = WholeRecord::read(file, at) {
         match query_kind(u16_at(file, at + 4)) {
             None => at = found.next(),
-            Some(kind) if found.fits(kind) => {
-                return Some((query_at(&found, kind), found.next()));
+            Some(kind) => {
+                let query = query_at(&found.as_kind(kind)?);
+                return Some((query, found.next()));
             }
-            Some(_) => return None,
         }
     }
     None

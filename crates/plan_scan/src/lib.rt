@@ -144,60 +144,85 @@ impl<'a> WholeRecord<'a> {
         }
     }
 
-    // Number 5 for a lane, where the length fits.
+    // Number 4: the record as one of this kind, where its length fits.
+    pub fn as_kind(&self, kind: Kind) -> Option<KnownRecord<'a>>
+        ensures { MatchOption result (fits self.now.file.now self.now.at (kind_number kind) self.now.size ≡ false)
+            (λ known. (known.whole ≡ self.now) × (known.kind ≡ kind)
+            × (fits self.now.file.now self.now.at (kind_number kind) self.now.size ≡ true)) }
+    {
+        if !self.fits(kind) {
+            return None;
+        }
+        Some(KnownRecord { whole: *self, kind })
+    }
+}
+
+// A whole record whose length fits its kind.
+#[derive(Clone, Copy)]
+pub struct KnownRecord<'a> {
+    pub whole: WholeRecord<'a>,
+    pub kind: Kind,
+    pub ghost fits: { fits whole.file.now whole.at (kind_number kind) whole.size ≡ true },
+}
+
+impl<'a> KnownRecord<'a> {
+    // Number 5 for a lane.
     #[tactic(auto, unfolding(plan_format::specs::Plan::lane_range), using(crate::specs::Sizes::lane_size))]
     fn lane_in_range(&self) -> bool
-        requires { fits self.now.file.now self.now.at 1 self.now.size ≡ true }
-        ensures { result ≡ lane_range (lane_at self.now.file.now self.now.at) }
+        requires { kind_number self.now.kind ≡ 1 }
+        ensures { result ≡ lane_range (lane_at self.now.whole.file.now self.now.whole.at) }
     {
-        let n = u16_at(self.file, self.at + 11);
-        u8_at(self.file, self.at + 8) <= 27
-            && u8_at(self.file, self.at + 9) <= 2
-            && u8_at(self.file, self.at + 10) <= 1
+        let WholeRecord { file, at, .. } = self.whole;
+        let n = u16_at(file, at + 11);
+        u8_at(file, at + 8) <= 27
+            && u8_at(file, at + 9) <= 2
+            && u8_at(file, at + 10) <= 1
             && 2 <= n
-            && are_coordinates(self.file, self.at + 13, 3 * n)
+            && are_coordinates(file, at + 13, 3 * n)
     }
 
-    // Number 5 for a section, where the length fits.
+    // Number 5 for a section.
     #[tactic(auto, unfolding(plan_format::specs::Plan::section_range), using(crate::specs::Sizes::section_size))]
     fn section_in_range(&self) -> bool
-        requires { fits self.now.file.now self.now.at 3 self.now.size ≡ true }
-        ensures { result ≡ section_range (section_at self.now.file.now self.now.at) }
+        requires { kind_number self.now.kind ≡ 3 }
+        ensures { result ≡ section_range (section_at self.now.whole.file.now self.now.whole.at) }
     {
-        let start = f64_at(self.file, self.at + 10);
-        let end = f64_at(self.file, self.at + 18);
-        let n = u16_at(self.file, self.at + 26);
+        let WholeRecord { file, at, .. } = self.whole;
+        let start = f64_at(file, at + 10);
+        let end = f64_at(file, at + 18);
+        let n = u16_at(file, at + 26);
         is_station(start)
             && is_station(end)
             && start <= end
             && 2 <= n
-            && are_stations(self.file, self.at + 28, n)
+            && are_stations(file, at + 28, n)
     }
 
-    // Number 5: whether the fields are in their ranges, where the length fits.
+    // Number 5: whether the fields are in their ranges. A lane's direction and the side of a query beside are tested as numbers,
+    // since `Direction` and `Side` stand in `beside`, above, whose `From` gives every number a case.
     #[tactic(auto, unfolding(plan_format::specs::Plan::in_range, plan_format::specs::Plan::fits))]
-    fn in_range(&self, kind: Kind) -> bool
-        requires { fits self.now.file.now self.now.at (kind_number kind) self.now.size ≡ true }
-        ensures { result ≡ in_range self.now.file.now self.now.at (kind_number kind) }
+    fn in_range(&self) -> bool
+        ensures { result ≡ in_range self.now.whole.file.now self.now.whole.at (kind_number self.now.kind) }
     {
-        match kind {
+        let WholeRecord { file, at, .. } = self.whole;
+        match self.kind {
             Kind::Lane => self.lane_in_range(),
-            Kind::Link => Role::try_from(u8_at(self.file, self.at + 8)).is_ok(),
+            Kind::Link => Role::try_from(u8_at(file, at + 8)).is_ok(),
             Kind::Section => self.section_in_range(),
-            Kind::Beside => u8_at(self.file, self.at + 16) <= 1,
+            Kind::Beside => u8_at(file, at + 16) <= 1,
             Kind::Place | Kind::Route | Kind::Advance => true,
         }
     }
 
-    // The points of a lane or the stations of a section, where the length fits.
+    // The points of a lane or the stations of a section.
     #[tactic(auto, using(crate::specs::Sizes::lane_size, crate::specs::Sizes::section_size))]
-    fn items(&self, kind: Kind) -> usize
-        requires { fits self.now.file.now self.now.at (kind_number kind) self.now.size ≡ true }
-        ensures { (result ≡ items_at self.now.file.now self.now.at (kind_number kind)) × (result < 65536) }
+    fn items(&self) -> usize
+        ensures { (result ≡ items_at self.now.whole.file.now self.now.whole.at (kind_number self.now.kind)) × (result < 65536) }
     {
-        match kind {
-            Kind::Lane => u16_at(self.file, self.at + 11),
-            Kind::Section => u16_at(self.file, self.at + 26),
+        let WholeRecord { file, at, .. } = self.whole;
+        match self.kind {
+            Kind::Lane => u16_at(file, at + 11),
+            Kind::Section => u16_at(file, at + 26),
             _ => 0,
         }
     }
@@ -211,13 +236,11 @@ fn record_at(file: &[u8], at: usize, starts: &RecordStarts) -> Result<Record, Re
 {
     let found = WholeRecord::read(file, at).ok_or(Refusal::CutRecord)?;
     let kind = Kind::try_from(u16_at(file, at + 4))?;
-    if !found.fits(kind) {
-        return Err(Refusal::WrongRecord);
-    }
-    if !found.in_range(kind) {
+    let known = found.as_kind(kind).ok_or(Refusal::WrongRecord)?;
+    if !known.in_range() {
         return Err(Refusal::OutOfRange);
     }
-    let items = found.items(kind);
+    let items = known.items();
     if !starts.keeps_within(kind, items) {
         return Err(Refusal::PastLimit);
     }
