@@ -12,8 +12,6 @@ ghost use Rattle.float.specs.Sign.{abs_of, is_negative, signum_of};
 ghost use Rattle.float.specs.Whole.{floor_of, ceil_of, round_of};
 ghost use Rattle.float_c.specs.Number.{number_of};
 
-use std::cmp::Ordering;
-
 #[unsafe(no_mangle)]
 pub extern "C" fn kartsodi_floor(x: f32) -> f32
     ensures { result ≡ floor_of x }
@@ -208,9 +206,5 @@ pub extern "C" fn kartsodi_to_bits64(x: f64) -> u64
 pub extern "C" fn kartsodi_total_cmp(x: f32, y: f32) -> i32
     ensures { result ≡ number_of (total_of x y) }
 {
-    match float::total_cmp(x, y) {
-        Ordering::Less => -1,
-        Ordering::Equal => 0,
-        Ordering::Greater => 1,
-    }
+    float::total_cmp(x, y) as i32
 }
