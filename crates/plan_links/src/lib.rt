@@ -117,6 +117,7 @@ impl<'a> Links<'a> {
 }
 
 // Lanes, links and places start at the entries of `ls`, `ks`, `ps`; `index` has the row of each lane number.
+// Lists and tables one by one, as C lends the tables: a struct of lent slices would owe a clause for each that it still is the one lent.
 pub fn load_links(
     file: &[u8],
     ls: &[usize],

@@ -1,11 +1,12 @@
 -- Number 8, as the code reads it.
-use Rattle.std.specs.Prelude.{Bool, false, not, true, List, [], map, ◌∷◌, refl, ◌≡◌, ℕ, ◌+◌, ◌<◌, ◌≤◌, eqb, drop, get_or, length}
-use Rattle.std.specs.Prelude.{Option, None, Some, IfSome, is_some, unwrap_or}
+use Rattle.std.specs.Prelude.{Bool, false, not, true, List, [], map, ◌∷◌, refl, ◌≡◌, ℕ, ◌+◌, ◌<◌, ◌≤◌, eqb, get_or, length}
+use Rattle.std.specs.Prelude.{Option, None, Some, IfSome, cond, is_some, unwrap_or}
+use Rattle.std.specs.List.{position_from}
 use Rattle.std.proofs.Common.{ap, sym, ◌∙◌, true≢false}
 use native.Mathlib.Omega.{arith}
 use borrow.Author.Tests.{eq-eqb, ne_eqb}
 use Rattle.fields.specs.Fields.{u16_at}
-use Rattle.plan_format.specs.Laws.{Each, Room, any_map, any_same, drop_next, drop_none, get_or_map_in}
+use Rattle.plan_format.specs.Laws.{Each, Room, any_map, any_same, get_or_map_in}
 use Rattle.plan_format.specs.Lookup.{index_in}
 use Rattle.plan_format.specs.Plan.{Starts, any, index_of, lane_count, misplaced, plan_of, section_count, unlike}
 use Rattle.plan_format.specs.Records.{lane_at, place_at, section_at}
@@ -28,19 +29,16 @@ pub record Searching (s ls ss m : List ℕ) : Type 0 where
   pub sections : length ss ≤ 64
   pub rows : ByNumber m (map (key_at s 0) ls) 0
 
--- a search among the first n keys, from the i-th on
-module _ (k : ℕ) (keys : List ℕ) (i d : ℕ) where
-  pub index_here : i < length keys → eqb (get_or keys i 0) k ≡ true → index_of k (drop i keys) i d ≡ i
-  unfolding index_of
-  index_here h e = rw (drop_next keys i 0 h, e)
-
-  pub index_later : i < length keys → eqb (get_or keys i 0) k ≡ false → index_of k (drop (i + 1) keys) (i + 1) d ≡ index_of k (drop i keys) i d
-  unfolding index_of
-  index_later h e = rw (drop_next keys i 0 h, e)
-
-  pub index_end : length keys ≤ i → index_of k (drop i keys) i d ≡ d
-  unfolding index_of
-  index_end h = rw (drop_none keys i h)
+-- the first of the keys that is k, by the index that `position` gives
+pub first_is : (k : ℕ) (keys : List ℕ) (i d : ℕ) → unwrap_or (position_from (λ x. eqb x k) i keys) d ≡ index_of k keys i d
+unfolding index_of
+first_is k [] i d = refl
+first_is k (x ∷ keys) i d = go (eqb x k) (first_is k keys (i + 1) d)
+  where
+    go : (b : Bool) → unwrap_or (position_from (λ y. eqb y k) (i + 1) keys) d ≡ index_of k keys (i + 1) d
+        → unwrap_or (cond b (Some i) (position_from (λ y. eqb y k) (i + 1) keys)) d ≡ cond b i (index_of k keys (i + 1) d)
+    go true e = refl
+    go false e = e
 
 module _ (s : List ℕ) where
   lane_counts : (ps : List ℕ) → map lane_count (map (lane_at s) ps) ≡ map (word_at s 11) ps

@@ -115,7 +115,7 @@ fn holds(keys: &[usize], x: usize) -> bool
     found
 }
 
-// Whether one of the keys stands twice: each is sought among those after it.
+// Whether one of the keys stands twice: each is sought among those after it. By `while let`, since no iterator gives a key with those after it.
 fn has_repeat(keys: &[usize]) -> bool
     ensures { result ≡ repeats keys.now }
 {
@@ -138,7 +138,7 @@ fn repeats_key(file: &[u8], part: &[usize], kind: Key) -> bool
 }
 
 // The rows of lanes by their numbers, or of places by their lanes'. Backwards, so that the first with a number stays.
-// An entry is 256 where there is no row, since the tables for C are written with the entries as they stand.
+// An entry is 256 where there is no row, since `links`, for C, is written with the entries as they stand.
 // Here and below a slice with its length in the contract: an array's type would ask more of a caller.
 pub fn index_numbers(file: &[u8], part: &[usize], rows: &mut [u16])
     requires { Listed file.now part.now 256 × (length rows.old ≡ 65536) }
@@ -164,17 +164,12 @@ pub fn lane_row(file: &[u8], at: usize, rows: &[u16]) -> Option<usize>
     }
 }
 
-// Where k first stands among the keys. A `for`, since `position` takes longer here.
+// Where k first stands among the keys.
 pub fn find(keys: &[usize], k: usize) -> Option<usize>
     ensures place { (d : ℕ) → unwrap_or result d ≡ index_of k keys.now 0 d }
     ensures within { IfSome result (λ i. i < length keys.now) }
 {
-    for i in 0..keys.len() {
-        if keys[i] == k {
-            return Some(i);
-        }
-    }
-    None
+    keys.iter().position(|key| *key == k)
 }
 
 impl<'a> Numbered<'a> {

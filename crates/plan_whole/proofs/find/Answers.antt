@@ -1,22 +1,20 @@
--- What is left of the keys has k where all have it.
-use Rattle.std.proofs.Common.{arith, sym, ◌∙◌, eq-eqb, ne_eqb}
-use Rattle.plan_whole.specs.Missing.{index_end, index_here, index_later}
+-- The first key for which the test passes.
+use borrow.Author.Rules.{rules}
+use borrow.Author.Tests.{tests}
+use Rattle.std.proofs.Common.{ap, ◌∙◌, ℕ, Bool}
+use Rattle.std.specs.Prelude.{Option, eqb, unwrap_or}
+use Rattle.std.proofs.lemmas.Iterator.{YieldsList-from_slice}
+use Rattle.std.proofs.lemmas.Iterator.Search.{position_from_yields_List}
+use Rattle.std.proofs.lemmas.Iterator.Adapters.{position_from-zero}
+use Rattle.plan_whole.specs.Missing.{first_is}
 use Rattle.plan_whole.proofs.find.Goals as goal
-
-pub returns-then-keys-i-clause-place : goal.returns-then-keys-i-clause-place
-returns-then-keys-i-clause-place c d =
-    let l = c.loop-i in
-    let a = c.args in
-    sym (index_here a.k a.keys.now l.i d (omega arith) (eq-eqb _ _ c.if-keys-i.true)) ∙ l.invariant d
-
-pub loop-i-preserved : goal.loop-i-preserved
-loop-i-preserved c d =
-    let l = c.loop-i in
-    let a = c.args in
-    index_later a.k a.keys.now l.i d (omega arith) (ne_eqb _ _ c.if-keys-i.false) ∙ l.invariant d
 
 pub returns-clause-place : goal.returns-clause-place
 returns-clause-place c d =
-    let l = c.loop-i in
     let a = c.args in
-    sym (index_end a.k a.keys.now l.i d (omega arith)) ∙ l.invariant d
+    let test : ℕ → Bool = λ x. eqb x a.k in
+    ap (λ (o : Option ℕ). unwrap_or o d)
+    (position_from_yields_List test _ _ c.position.result c.position.ensures.ran (YieldsList-from_slice a.keys.now cc)
+    (λ x b q k. search (rules, tests))
+    ∙ position_from-zero test a.keys.now)
+    ∙ first_is a.k a.keys.now 0 d
