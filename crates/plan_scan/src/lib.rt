@@ -166,7 +166,7 @@ pub struct KnownRecord<'a> {
 }
 
 impl<'a> KnownRecord<'a> {
-    // Number 5 for a lane.
+    // Number 5 for a lane. Its direction is tested as a number, since `Direction` stands in `beside`, above, with a case for every number.
     #[tactic(auto, unfolding(plan_format::specs::Plan::lane_range), using(crate::specs::Sizes::lane_size))]
     fn lane_in_range(&self) -> bool
         requires { kind_number self.now.kind ≡ 1 }
@@ -198,8 +198,7 @@ impl<'a> KnownRecord<'a> {
             && are_stations(file, at + 28, n)
     }
 
-    // Number 5: whether the fields are in their ranges. A lane's direction and the side of a query beside are tested as numbers,
-    // since `Direction` and `Side` stand in `beside`, above, whose `From` gives every number a case.
+    // Number 5: whether the fields are in their ranges. A side is tested as a number, since `Side`, too, has a case for every one.
     #[tactic(auto, unfolding(plan_format::specs::Plan::in_range, plan_format::specs::Plan::fits))]
     fn in_range(&self) -> bool
         ensures { result ≡ in_range self.now.whole.file.now self.now.whole.at (kind_number self.now.kind) }
