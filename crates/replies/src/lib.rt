@@ -93,6 +93,7 @@ fn route_reply<const N: usize>(
         &mut chain,
         &mut waypoints,
     );
+    // as C's struct, since the text has document 01's number, of a refusal too
     let a = RouteAnswer::from(answer);
     let lanes = &chain[..a.lanes];
     let points = &waypoints[..3 * a.points];
@@ -134,6 +135,7 @@ fn advance_reply<const N: usize>(
         &mut rows,
         &mut metres,
     );
+    // as C's struct, since the text has document 01's number, of a refusal too
     let a = Advanced::from(answer);
     let rows = &rows[..2 * a.positions];
     let metres = &metres[..3 * a.positions];
@@ -168,6 +170,7 @@ fn beside_reply<const N: usize>(
         &mut t.cumulative,
         &mut t.tangents,
     );
+    // as C's struct, since the text has document 01's number, of a refusal too
     let a = BesideAnswer::from(answer);
     let at = a.at;
     let id = at.lane;
