@@ -1,10 +1,9 @@
 // The queries of a plan file one by one, in file order.
 #![tactic(auto)]
 
-ghost use Rattle.std.specs.Prelude.{◌≡◌, false, true, ◌+◌, ◌≤◌, length, MatchOption};
+ghost use Rattle.std.specs.Prelude.{◌≡◌, false, true, ◌+◌, MatchOption};
 ghost use Rattle.fields.specs.Fields.{u16_at};
 ghost use Rattle.plan_format.specs.Kinds.{kind_number};
-ghost use Rattle.plan_format.specs.Plan.{fits};
 ghost use Rattle.plan_format.specs.Queries.{is_query, next_query};
 ghost use Rattle.plan_format.specs.Records.{advance_at, beside_at, query_at, route_at};
 
