@@ -194,10 +194,6 @@ module _ (point : Float → Point) (entry span : Float) (steps : ℕ) where
       let p = point (sample_at entry span steps k) in
       front_on qs (pushed qs p) _ (pushed_front qs p) (from_front n (k + 1) (pushed qs p))
 
-  from_last : (k : ℕ) (qs : List Point) → sample_from point entry span steps 1 k qs ≡ pushed qs (point (sample_at entry span steps k))
-  unfolding sample_from
-  from_last k qs = refl
-
   from_next : (n k : ℕ) (qs : List Point)
       → sample_from point entry span steps (suc n) k qs
       ≡ sample_from point entry span steps n (k + 1) (pushed qs (point (sample_at entry span steps k)))
@@ -210,7 +206,7 @@ pub record Sampling (point : Float → Point) (entry span : Float) (steps k : �
   pub points : List Point
   pub kept : r ≡ kept_of points
   pub written : out ≡ laid points old
-  pub rest : sample_from point entry span steps (suc (steps - k)) k points ≡ all
+  pub rest : sample_from point entry span steps (steps + 1 - k) k points ≡ all
 
 module _ (point : Float → Point) (entry span : Float) (steps k : ℕ) (all : List Point) (old : List Float) (r : Kept) (out : List Float)
     (r' : Kept) (out' : List Float) (S : Sampling point entry span steps k all old r out)
@@ -227,44 +223,37 @@ module _ (point : Float → Point) (entry span : Float) (steps k : ℕ) (all : L
   written_next =
       f ∙ ap₂ (λ (q : Kept) (o : List Float). putting q p o) S.kept S.written ∙ pushed_laid S.points p old
 
+  rest_next : k ≤ steps → sample_from point entry span steps (steps + 1 - (k + 1)) (k + 1) (pushed S.points p) ≡ all
+  unfolding p
+  rest_next h =
+      let n : steps + 1 - k ≡ suc (steps + 1 - (k + 1)) = omega arith in
+      sym (from_next point entry span steps (steps + 1 - (k + 1)) k S.points) ∙ (rw n at S.rest)
+
   -- one more sample
-  pub sampling_next : k < steps → Sampling point entry span steps (k + 1) all old r' out'
+  pub sampling_next : k ≤ steps → Sampling point entry span steps (k + 1) all old r' out'
   unfolding p
   sampling_next h =
-      let n : steps - k ≡ suc (steps - (k + 1)) = omega arith in
-      record {
-        points = pushed S.points p;
-        kept = kept_next;
-        written = written_next;
-        rest = rw n at (sym (from_next point entry span steps (steps - k) k S.points) ∙ S.rest);
-      }
+      record { points = pushed S.points p; kept = kept_next; written = written_next; rest = rest_next h }
 
   -- one more than there is room for
-  pub sampling_stops : (room : ℕ) → r.count ≤ room → room < r'.count → Sampled room all old r' out'
+  pub sampling_stops : (room : ℕ) → k ≤ steps → r.count ≤ room → room < r'.count → Sampled room all old r' out'
   unfolding p
-  sampling_stops room few h =
+  sampling_stops room m few h =
       let c = ap (λ (q : Kept). q.count) S.kept in
       let n = ap (λ (q : Kept). q.count) kept_next in
       let l = pushed_few S.points p in
-      let same = sym (from_next point entry span steps (steps - k) k S.points) ∙ S.rest in
-      let F = subst (λ (ps : List Point). Front (pushed S.points p) ps) same (from_front point entry span steps (steps - k) (k + 1) _) in
+      let front = from_front point entry span steps (steps + 1 - (k + 1)) (k + 1) _ in
+      let F = subst (λ (ps : List Point). Front (pushed S.points p) ps) (rest_next m) front in
       sampled_front room (pushed S.points p) all old r' out' kept_next written_next (omega arith) F (omega arith)
 
--- the last sample
+-- no sample is left
 pub sampling_ends : (point : Float → Point) (entry span : Float) (steps k : ℕ) (all : List Point) (old : List Float) (r : Kept)
-    (out : List Float) (r' : Kept) (out' : List Float) → Sampling point entry span steps k all old r out → k ≡ steps
-    → r' ≡ pushing r (point (sample_at entry span steps steps)) → out' ≡ putting r (point (sample_at entry span steps steps)) out
-    → (room : ℕ) → r.count ≤ room → Sampled room all old r' out'
-sampling_ends point entry span steps k all old r out r' out' S h e f room few =
-    let p = point (sample_at entry span steps steps) in
-    let n : suc (steps - k) ≡ 1 = omega arith in
-    let same : sample_from point entry span steps 1 steps S.points ≡ all
-    = ap₂ (λ (m j : ℕ). sample_from point entry span steps m j S.points) (sym n) (sym h) ∙ S.rest in
+    (out : List Float) → Sampling point entry span steps k all old r out → steps < k → (room : ℕ) → r.count ≤ room → Sampled room all old r out
+unfolding sample_from
+sampling_ends point entry span steps k all old r out S h room few =
+    let n : steps + 1 - k ≡ 0 = omega arith in
     let c = ap (λ (q : Kept). q.count) S.kept in
-    let l = pushed_few S.points p in
-    sampled_all room (pushed S.points p) all old r' out' (e ∙ ap (λ (q : Kept). pushing q p) S.kept ∙ pushed_kept S.points p)
-    (f ∙ ap₂ (λ (q : Kept) (o : List Float). putting q p o) S.kept S.written ∙ pushed_laid S.points p old) (omega arith)
-    (sym (from_last point entry span steps steps S.points) ∙ same)
+    sampled_all room S.points all old r out S.kept S.written (omega arith) (rw n at S.rest)
 
 -- what the test of the span decides; a is its size
 module _ (point : Float → Point) (entry exit a : Float) (e : a ≡ abs_of (sub binary32 exit entry)) (qs : List Point) where

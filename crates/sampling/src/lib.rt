@@ -129,8 +129,7 @@ impl Kept {
         }
     }
 
-    // Points along a lane's centerline from arc length `entry` to `exit`, spaced ~`ROUTE_STEP`; no more once over `room` are kept. The last sample
-    // stands outside the loop: `steps` may be the largest usize, where `steps + 1` would wrap.
+    // Points along a lane's centerline from arc length `entry` to `exit`, spaced ~`ROUTE_STEP`; no more once over `room` are kept.
     fn sample_segment(&mut self, line: Polyline, entry: f32, exit: f32, room: Room, out: &mut [f32])
         requires { Rising line.cumulative.now × (self.old.count ≤ room.points) }
         ensures { SegmentSampled line.entry.points.now line.entry.cumulative.now entry exit room.points self.old out.old self.new out.new }
@@ -141,13 +140,12 @@ impl Kept {
             return;
         }
         let steps = steps_of(span);
-        for k in 0..steps {
+        for k in 0..=steps {
             self.push_dedup(line.point_at(sample_at(entry, span, steps, k)), out);
             if room.points < self.count {
                 return;
             }
         }
-        self.push_dedup(line.point_at(sample_at(entry, span, steps, steps)), out);
     }
 
     // The points of lane i from `entry` to `exit`.
