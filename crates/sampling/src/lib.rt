@@ -16,6 +16,7 @@ use beside::Direction;
 use branches::Lanes;
 use coords::Point;
 use geometry::Polyline;
+use lists::put_row;
 
 // The lanes of an accepted plan, and the links between them.
 #[derive(Clone, Copy)]
@@ -78,17 +79,13 @@ fn advance(from: f32, end: f32, dist: f32) -> f32
 }
 
 // Writes p as point i, where the list has room.
-// Three floats by hand as geometry's `write_vector` has them: one function for points and vectors would be passed the three, no plainer.
 fn put(out: &mut [f32], i: usize, p: Point)
     ensures { out.new ≡ put_at out.old i p }
 {
     if Room::of(out).points <= i {
         return;
     }
-    let k = 3 * i;
-    out[k] = p.x;
-    out[k + 1] = p.y;
-    out[k + 2] = p.z;
+    put_row(&[p.x, p.y, p.z], out, 3 * i);
 }
 
 // How many steps a span takes.
