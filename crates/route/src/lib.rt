@@ -140,7 +140,7 @@ impl Drive<'_> {
 impl RouteRows<'_> {
     ghost use Rattle.route.specs.Structs.{graph_in};
 
-    // The length of each lane.
+    // The length of each lane. A loop that pushes, since `collect` and `extend` of an `ArrayVec`, which may find it full, answer a `Result`.
     fn lengths(&self) -> ArrayVec<f32, 256>
         ensures { result.items ≡ lengths_to self.now.linked.lanes.rows.now self.now.linked.lanes.cumulative.now self.now.linked.lanes.count }
     {
@@ -153,20 +153,22 @@ impl RouteRows<'_> {
     }
 
     // Whether the one lane is the route: the goal lies ahead on it.
-    fn suffices(&self, start: usize, s: f32, goal: usize, t: f32) -> bool
-        requires { start < self.now.linked.lanes.count }
-        ensures { result ≡ suffices self.now.linked.lanes.rows.now start s goal t }
+    fn suffices(&self, start: Nearest, goal: Nearest) -> bool
+        requires { start.row < self.now.linked.lanes.count }
+        ensures { result ≡ suffices self.now.linked.lanes.rows.now start.row start.projection.s goal.row goal.projection.s }
     {
-        start == goal && sampling::ahead(self.linked.lanes.direction(start), s, t)
+        let direction = self.linked.lanes.direction(start.row);
+        start.row == goal.row && sampling::ahead(direction, start.projection.s, goal.projection.s)
     }
 
     // Shortest lane path from `start` to `goal`, each a lane and a distance along its centerline.
-    fn lane_path(&self, start: usize, s: f32, goal: usize, t: f32) -> Option<LanePath>
-        requires { (start < self.now.linked.lanes.count) × (goal < self.now.linked.lanes.count) }
-        ensures { result_of result ≡ path_of self.now.linked.lanes.rows.now (graph_in self.now) start s goal t }
+    fn lane_path(&self, start: Nearest, goal: Nearest) -> Option<LanePath>
+        requires { (start.row < self.now.linked.lanes.count) × (goal.row < self.now.linked.lanes.count) }
+        ensures { result_of result
+            ≡ path_of self.now.linked.lanes.rows.now (graph_in self.now) start.row start.projection.s goal.row goal.projection.s }
     {
-        if self.suffices(start, s, goal, t) {
-            return Some(one_lane(start));
+        if self.suffices(start, goal) {
+            return Some(one_lane(start.row));
         }
         let lengths = self.lengths();
         let graph = Graph {
@@ -176,33 +178,29 @@ impl RouteRows<'_> {
             links: self.linked.links,
             lengths: &lengths,
         };
-        graph.lane_path(start, goal)
+        graph.lane_path(start.row, goal.row)
     }
 
-    // The route from s on the lane `start` to t on the lane `goal`: its path is found, and followed.
+    // The route from `start` to `goal`: its path is found, and followed.
     fn find_and_follow(
         &self,
-        start: usize,
-        s: f32,
-        goal: usize,
-        t: f32,
+        start: Nearest,
+        goal: Nearest,
         chain: &mut [usize],
         waypoints: &mut [f32],
     ) -> Result<RouteAnswer, Refusal>
-        requires { (start < self.now.linked.lanes.count) × (goal < self.now.linked.lanes.count) }
+        requires { (start.row < self.now.linked.lanes.count) × (goal.row < self.now.linked.lanes.count) }
         ensures { Routes (fitted (length chain.old) (length waypoints.old)
-            (followed (tables_in self.now.linked) s t (path_of self.now.linked.lanes.rows.now (graph_in self.now) start s goal t)))
+            (followed (tables_in self.now.linked) start.projection.s goal.projection.s
+            (path_of self.now.linked.lanes.rows.now (graph_in self.now) start.row start.projection.s goal.row goal.projection.s)))
             (answered result) chain.old chain.new waypoints.old waypoints.new }
     {
-        // `let .. else`: after `.ok_or(..)?` the goals have weaker facts
-        let Some(path) = self.lane_path(start, s, goal, t) else {
-            return Err(Refusal::NoWay);
-        };
+        let path = self.lane_path(start, goal).ok_or(Refusal::NoWay)?;
         let drive = Drive {
             linked: self.linked,
             path: &path.lanes,
-            s,
-            t,
+            s: start.projection.s,
+            t: goal.projection.s,
         };
         drive.follow(path.cost, chain, waypoints)
     }
@@ -220,20 +218,9 @@ impl RouteRows<'_> {
             (between (tables_in self.now.linked) self.now.linked.lanes.count from to))
             (answered result) chain.old chain.new waypoints.old waypoints.new }
     {
-        let Some(start) = from else {
-            return Err(Refusal::NoneDrives);
-        };
-        let Some(goal) = to else {
-            return Err(Refusal::NoneDrives);
-        };
-        self.find_and_follow(
-            start.row,
-            start.projection.s,
-            goal.row,
-            goal.projection.s,
-            chain,
-            waypoints,
-        )
+        let start = from.ok_or(Refusal::NoneDrives)?;
+        let goal = to.ok_or(Refusal::NoneDrives)?;
+        self.find_and_follow(start, goal, chain, waypoints)
     }
 
     // The route from one point to another.

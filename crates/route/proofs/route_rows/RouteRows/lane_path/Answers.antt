@@ -16,4 +16,4 @@ returns c =
     let r = a.self.now.linked in
     let lengths = c.deref.ensures.0 ∙ c.lengths-lengths.ensures in
     rw (← c.suffices.ensures, c.if-suffices.false) (c.lane_path.ensures
-    ∙ ap (λ (ls : List Float). searched_in r.lanes.rows.now (lane_graph r.lanes.count r.fans.now r.links.now ls) a.start a.goal) lengths)
+    ∙ ap (λ (ls : List Float). searched_in r.lanes.rows.now (lane_graph r.lanes.count r.fans.now r.links.now ls) a.start.row a.goal.row) lengths)

@@ -6,8 +6,8 @@ use Rattle.route.proofs.route_rows.RouteRows.suffices.Goals as goal
 
 pub returns-then-start-goal : goal.returns-then-start-goal
 unfolding suffices
-returns-then-start-goal c = simp (eq-eqb c.args.start c.args.goal c.if-start-goal.true) (rw (c.direction.ensures, ahead_at) at c.ahead.ensures)
+returns-then-start-goal c = simp (eq-eqb c.args.start.row c.args.goal.row c.if-start-goal.true) (rw (c.direction-direction.ensures, ahead_at) at c.ahead.ensures)
 
 pub returns-else-start-goal : goal.returns-else-start-goal
 unfolding suffices
-returns-else-start-goal c = simp (ne_eqb c.args.start c.args.goal c.if-start-goal.false)
+returns-else-start-goal c = simp (ne_eqb c.args.start.row c.args.goal.row c.if-start-goal.false)
