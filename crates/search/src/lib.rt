@@ -110,6 +110,7 @@ impl Graph<'_> {
     }
 
     // Relax the links out of `lane`, reached at `cost`: successors cost the lane's length, lane changes a flat penalty.
+    // The fan is read here as in `changes_off` of sampling: a function of both would owe a clause for each bound and ask that the sums fit, no plainer.
     fn expand(&self, search: Search, lane: usize, cost: f32) -> Search
         requires { lane < self.now.count }
         ensures { state_of result ≡ expanded_in (graph_of self.now) lane cost (state_of search) }
@@ -125,7 +126,8 @@ impl Graph<'_> {
     }
 
     // The open lane of least cost, the larger number among equals.
-    // A loop and no `min_by`: `<` on floats orders no NaN, so there is no `Ordering` to give it; a `fold` would carry the same three.
+    // A loop: `filter` and `min_by_key` by (`OrderedFloat`, `Reverse`) was tried, and the proof that the row picked is `least_open` did not close.
+    // Cost and number stand beside the row and not in its Option, since the first lane is compared too, with infinity.
     fn least(&self, search: &Search) -> Option<usize>
         ensures row { unwrap_or result 256 ≡ least_in self.now (state_of search.now) }
         ensures within { IfSome result (λ u. u < self.now.count) }
