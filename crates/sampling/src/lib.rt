@@ -229,7 +229,7 @@ impl LinkedLanes<'_> {
     ghost use Rattle.sampling.specs.Structs.{tables_in};
 
     // Whether lane i is left for `next` by a lane change: a neighbour, not a successor.
-    // The fan is read here as in `expand` of search: a function of both would owe a clause for each bound and ask that the sums fit, no plainer.
+    // The fan is read here as in `expand` of search: a function of both would owe a clause for each bound and ask that sums fit, no plainer.
     #[tactic(auto, unfolding(crate::specs::Sampling::changes_off))]
     fn changes_off(&self, i: usize, next: usize) -> bool
         requires { i < self.now.lanes.count }

@@ -110,7 +110,7 @@ impl Graph<'_> {
     }
 
     // Relax the links out of `lane`, reached at `cost`: successors cost the lane's length, lane changes a flat penalty.
-    // The fan is read here as in `changes_off` of sampling: a function of both would owe a clause for each bound and ask that the sums fit, no plainer.
+    // The fan is read here as in `changes_off` of sampling: a function of both would owe a clause for each bound and ask that sums fit, no plainer.
     fn expand(&self, search: Search, lane: usize, cost: f32) -> Search
         requires { lane < self.now.count }
         ensures { state_of result ≡ expanded_in (graph_of self.now) lane cost (state_of search) }
