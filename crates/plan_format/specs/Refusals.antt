@@ -1,7 +1,7 @@
 -- The number that an answer gives for each refusal.
-use Rattle.std.specs.Prelude.{ℕ, ◌≡◌}
+use Rattle.std.specs.Prelude.{ℕ, ◌≡◌, refl, Option, None, Some, Result, Ok, Err}
 use Rattle.std.proofs.Common.{arith}
-use Rattle.std.specs.Prelude.{Result, Ok, Err}
+use Rattle.std.specs.Option.{ok_or}
 use Rattle.plan_format.specs.Reading.{no_counts}
 use Rattle.plan_format.specs.declared.Counts.{Counts}
 use Rattle.plan_format.specs.declared.Read.{Read}
@@ -52,3 +52,8 @@ refusal_number NotOnALane h = omega arith
 refusal_number NotADistance h = omega arith
 refusal_number TooMuch h = omega arith
 refusal_number NoneBeside h = omega arith
+
+-- where `ok_or` refuses there is none
+pub ok_or_refused : {A : Type 0} (x : Option A) (e y : Refusal) → Err e ≡ ok_or x y → (x ≡ None) × (e ≡ y)
+ok_or_refused None e y is = (refl, cc)
+ok_or_refused (Some a) e y is = cc

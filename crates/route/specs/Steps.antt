@@ -1,7 +1,6 @@
 -- Laws of the route query's steps: the lengths, the count, the lists.
 use Rattle.std.specs.Prelude.{Bool, true, ◌&&◌, List, [], map, ◌++◌, ◌∷◌, refl, ◌≡◌, suc, zero, ℕ, ◌*◌, ◌+◌, ◌/◌, ◌<◌, ◌≤◌, Float, get_or, set, take}
-use Rattle.std.specs.Prelude.{Err, Option, None, Some, slice_index_or}
-use Rattle.std.specs.Option.{ok_or}
+use Rattle.std.specs.Prelude.{Option, None, Some, slice_index_or}
 use Rattle.std.proofs.Math.Bool.{cond, false}
 use Rattle.std.proofs.Common.{subst, sym, ◌∙◌, add-one, length-append, length-take-le, take-suc}
 use Rattle.std.proofs.lemmas.List.{map-append}
@@ -18,7 +17,6 @@ use Rattle.network.specs.Lanes.{Lane, drives_table}
 use Rattle.network.specs.Nearest.{nearest_lane}
 use Rattle.network.specs.Tables.{lanes_from, told}
 use Rattle.network.specs.declared.Nearest.{Nearest}
-use Rattle.plan_format.specs.declared.Refusal.{Refusal}
 use Rattle.rows.specs.Rows.{lane_number, length_of}
 use Rattle.sampling.specs.Kept.{first_of, flat, laid}
 use Rattle.sampling.specs.Passes.{Sampled, first_all, laid_flat, length_first, length_flat}
@@ -87,11 +85,6 @@ chain_next lanes path old out k h l e =
 pub refuses : (n : ℕ) (r : RouteAnswer) (chain : List ℕ) (waypoints : List Float) → r ≡ answer_of (refusal n)
     → Routes (refusal n) r chain chain waypoints waypoints
 refuses n r chain waypoints e = record { answer_is = e; chain_is = refl; waypoints_is = refl }
-
--- where `ok_or` refuses there is none
-pub missing : {A : Type 0} (x : Option A) (e y : Refusal) → Err e ≡ ok_or x y → (x ≡ None) × (e ≡ y)
-missing None e y is = (refl, cc)
-missing (Some a) e y is = cc
 
 pub routes_as : (R R' : Routed) (r : RouteAnswer) (chain chain' : List ℕ) (waypoints waypoints' : List Float) → R ≡ R'
     → Routes R r chain chain' waypoints waypoints' → Routes R' r chain chain' waypoints waypoints'

@@ -1,8 +1,7 @@
 -- `nearest_lane` refuses a point that is not finite, asks for the nearest row, and reads its lane's number.
-use Rattle.std.proofs.Common.{arith, ap, refl, sym, List, Option, None, Some, Err, ◌≡◌, ◌∷◌, ◌∙◌, [], slice_index_or}
-use Rattle.std.specs.Option.{ok_or}
+use Rattle.std.proofs.Common.{arith, ap, sym, List, Option, None, ◌≡◌, ◌∷◌, ◌∙◌, [], slice_index_or}
 use Rattle.std.proofs.lemmas.Result.{err_from_is_err_and}
-use Rattle.plan_format.specs.declared.Refusal.{Refusal}
+use Rattle.plan_format.specs.Refusals.{ok_or_refused}
 use Rattle.network.specs.declared.Nearest.{Nearest}
 use Rattle.nearest.specs.Answer.{none_found, not_finite, one_found, row_below}
 use Rattle.nearest.proofs.Lanes.nearest_lane.Goals as goal
@@ -10,15 +9,6 @@ use Rattle.nearest.proofs.Lanes.nearest_lane.Goals as goal
 -- the one answer
 only : {best answer : Option Nearest} {found : List (Option Nearest)} → slice_index_or found 0 None ≡ best → found ≡ answer ∷ [] → best ≡ answer
 only is e = sym is ∙ ap (λ (xs : List (Option Nearest)). slice_index_or xs 0 None) e
-
--- where `ok_or` refuses there is none
-none_of : (best : Option Nearest) {e : Refusal} → Err e ≡ ok_or best Refusal.NoneDrives → best ≡ None
-none_of None is = refl
-none_of (Some b) is = cc
-
-refused_by : (best : Option Nearest) {e : Refusal} → Err e ≡ ok_or best Refusal.NoneDrives → e ≡ Refusal.NoneDrives
-refused_by None is = cc
-refused_by (Some b) is = cc
 
 pub returns-then-not-is_finite : goal.returns-then-not-is_finite
 returns-then-not-is_finite c =
@@ -44,9 +34,9 @@ bounds-self-b c =
 
 pub returns-in_err-b : goal.returns-in_err-b
 returns-in_err-b c =
-    let none : slice_index_or c.nearest_rows.result 0 None ≡ None = none_of _ c.in_err-b.ensures.value in
+    let none : slice_index_or c.nearest_rows.result 0 None ≡ None = (ok_or_refused _ _ _ c.in_err-b.ensures.value).0 in
     let p = err_from_is_err_and c.from_residual.result c.from_residual.ensures.1 in
-    rw (p.1, p.2, refused_by _ c.in_err-b.ensures.value)
+    rw (p.1, p.2, (ok_or_refused _ _ _ c.in_err-b.ensures.value).1)
     (none_found _ _ _ _ (sym c.is_finite.ensures ∙ c.if-not-is_finite.false) (only none c.nearest_rows.ensures))
 
 pub returns : goal.returns

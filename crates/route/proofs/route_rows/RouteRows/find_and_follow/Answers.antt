@@ -3,7 +3,8 @@ use Rattle.std.proofs.Common.{ap, length, refl, subst, sym, ◌∙◌}
 use Rattle.std.proofs.lemmas.Result.{err_from_is_err_and}
 use Rattle.route.specs.PathRows.{OfPath, path_rows}
 use Rattle.route.specs.Route.{refusal, suffices}
-use Rattle.route.specs.Steps.{missing, path_refused, refuses, routes_as}
+use Rattle.plan_format.specs.Refusals.{ok_or_refused}
+use Rattle.route.specs.Steps.{path_refused, refuses, routes_as}
 use Rattle.route.specs.Structs.{graph_in}
 use Rattle.sampling.specs.Structs.{tables_in}
 use Rattle.search.specs.Structs.{result_of}
@@ -14,7 +15,7 @@ returns-in_err-path c =
     let a = c.args in
     let r = a.self.now in
     let p = err_from_is_err_and c.from_residual.result c.from_residual.ensures.1 in
-    let m = missing c.lane_path.result _ _ c.in_err-path.ensures.value in
+    let m = ok_or_refused c.lane_path.result _ _ c.in_err-path.ensures.value in
     let none = sym c.lane_path.ensures ∙ ap result_of m.0 in
     routes_as (refusal 11) _ _ a.chain.now _ a.waypoints.now _
     (path_refused (tables_in r.linked) r.linked.lanes.count (length a.chain.now) (length a.waypoints.now) a.start.projection.s a.goal.projection.s _ none)
