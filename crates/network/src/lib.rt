@@ -289,8 +289,8 @@ pub struct Spans<'a> {
 impl<'a> Spans<'a> {
     ghost use Rattle.network.specs.Indexed.{spans_of, items_of, item_at, best_in};
 
-    // The projection onto segments of the lane in a row. `branches` and `pose` cut a line so too, each by a fact of its own on its rows:
-    // one function for the three would ask a fourth, which each has to show first.
+    // The projection onto segments of the lane in a row. `branches` cuts a line so too, by a fact of its own on its rows: one
+    // function for both would ask a third, which each has to show first.
     fn project(&self, row: usize, first: usize, end: usize, p: Point) -> Projection
         requires { Line self.now.lanes.now self.now.points.now self.now.cumulative.now row × (first < end)
             × (end < point_count self.now.lanes.now row) }

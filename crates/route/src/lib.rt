@@ -152,6 +152,8 @@ impl RouteRows<'_> {
         lengths
     }
 
+    // Here and below a start and a goal as what `network` found, whose rows are plain indices, as in `branches::Lanes`.
+
     // Whether the one lane is the route: the goal lies ahead on it.
     fn suffices(&self, start: Nearest, goal: Nearest) -> bool
         requires { start.row < self.now.linked.lanes.count }
