@@ -57,7 +57,7 @@ PATTERNS = [
     (1, "a flag with a value beside", r"^\s*pub (ok|found|given|more|any|full): bool"),
     (3, "while loops", r"^\s*while "),
     (3, "of these, a turn ends in `+= 1`, `-= 1` or another step by hand", None),
-    (6, "arrays of a fixed length", r"= \[[a-z0-9._]+; \d+\];|: \[\w+; \d+\]"),
+    (6, "arrays of a fixed length", r"= \[[\w.:]+; \d+\];|: \[[\w.:<>]+; \d+\]"),
     (7, "a number for which step to run", r"which: usize"),
 ]
 
