@@ -126,7 +126,13 @@ item_in lanes points spans boxes index i = item_of index.grid i (span_in lanes p
 abbrev pub item_list : List ℕ → List Float → List ℕ → List Float → LaneIndex → ℕ → ℕ → List Item
 item_list lanes points spans boxes index n i = items_from index.grid i (span_list lanes points spans boxes n i)
 
--- whether the columns and rows of entry i hold a cell
+-- whether the columns of entry i hold a column, its rows a row, or both a cell
+abbrev pub columns_within : List ℕ → ℕ → ℕ → Bool
+columns_within ranges i ix = leb (get_or ranges (4 * i) 0) ix && leb ix (get_or ranges (4 * i + 1) 0)
+
+abbrev pub rows_within : List ℕ → ℕ → ℕ → Bool
+rows_within ranges i iy = leb (get_or ranges (4 * i + 2) 0) iy && leb iy (get_or ranges (4 * i + 3) 0)
+
 unfoldable pub within : List ℕ → ℕ → ℕ → ℕ → Bool
 within ranges i ix iy =
     leb (get_or ranges (4 * i) 0) ix &&

@@ -13,7 +13,7 @@ ghost use Rattle.grid.specs.Grid.{extent_of, Sides};
 ghost use Rattle.grid.specs.Ring.{listed, row_cells, ring_of, Inside};
 ghost use Rattle.network.specs.Lanes.{around, driving, drives_table};
 ghost use Rattle.network.specs.Tables.{lane_at, lanes_from, Row, Rows, box_row, box_in, box_list, range_row, Added, Room, Built};
-ghost use Rattle.network.specs.Tables.{span_list, Line, Index, within, told};
+ghost use Rattle.network.specs.Tables.{span_list, Line, Index, columns_within, rows_within, within, told};
 ghost use Rattle.network.specs.Tables.{CeilingIs, WinsIs, EnoughIs, MeasuredIs};
 ghost use Rattle.network.specs.Nearest.{offered, offered_in, visit_cell, visit_ring, searched, grid_for, nearest_of};
 
@@ -306,7 +306,9 @@ impl<'a> Spans<'a> {
         line.project_segments(p, first, end)
     }
 
-    // Span i against the best so far. A span whose box already loses is not measured.
+    // Span i against the best so far. A span whose box already loses is not measured. Put in place in both forms of `visit_cell`: where it was
+    // called, the best so far was copied in memory at each span.
+    #[inline(always)]
     fn consider(&self, p: Point, i: usize, best: Option<Nearest>) -> Option<Nearest>
         requires { i < self.now.index.count }
         ensures { best_in self.now result
@@ -324,59 +326,97 @@ impl<'a> Spans<'a> {
         measure(d2, i, row, projection, best)
     }
 
-    // Whether the columns and rows of span i hold a cell. The rows come first, since spans that follow one another mostly agree on them.
+    // Whether the columns of span i hold the cell's.
+    fn columns_hold(&self, i: usize, cell: Cell) -> bool
+        requires { i < self.now.index.count }
+        ensures { result ≡ columns_within self.now.ranges.now i cell.ix }
+    {
+        self.ranges[4 * i] <= cell.ix && cell.ix <= self.ranges[4 * i + 1]
+    }
+
+    // Whether the rows of span i hold the cell's.
+    fn rows_hold(&self, i: usize, cell: Cell) -> bool
+        requires { i < self.now.index.count }
+        ensures { result ≡ rows_within self.now.ranges.now i cell.iy }
+    {
+        self.ranges[4 * i + 2] <= cell.iy && cell.iy <= self.ranges[4 * i + 3]
+    }
+
+    // Whether the columns and rows of span i hold a cell.
     #[tactic(auto, unfolding(crate::specs::Tables::within))]
-    fn holds(&self, i: usize, cell: Cell) -> bool
+    fn holds<const ROWS_FIRST: bool>(&self, i: usize, cell: Cell) -> bool
         requires { i < self.now.index.count }
         ensures { result ≡ within self.now.ranges.now i cell.ix cell.iy }
     {
-        let at = 4 * i;
-        self.ranges[at + 2] <= cell.iy
-            && cell.iy <= self.ranges[at + 3]
-            && self.ranges[at] <= cell.ix
-            && cell.ix <= self.ranges[at + 1]
+        if ROWS_FIRST {
+            self.rows_hold(i, cell) && self.columns_hold(i, cell)
+        } else {
+            self.columns_hold(i, cell) && self.rows_hold(i, cell)
+        }
     }
 
     // Span i against the best so far, if the cell's list has it.
-    fn offer(&self, p: Point, cell: Cell, i: usize, best: Option<Nearest>) -> Option<Nearest>
+    fn offer<const ROWS_FIRST: bool>(
+        &self,
+        p: Point,
+        cell: Cell,
+        i: usize,
+        best: Option<Nearest>,
+    ) -> Option<Nearest>
         requires { i < self.now.index.count }
         ensures { best_in self.now result
             ≡ offered_in (item_at self.now i) p cell
             (best_in self.now best) }
     {
-        if self.holds(i, cell) {
+        if self.holds::<ROWS_FIRST>(i, cell) {
             return self.consider(p, i, best);
         }
         best
     }
 
-    // The spans of one cell, in rising number.
-    fn visit_cell(&self, p: Point, cell: Cell, best: Option<Nearest>) -> Option<Nearest>
+    // The spans of one cell, in rising number, told apart by their rows first or by their columns first.
+    fn visit_cell<const ROWS_FIRST: bool>(
+        &self,
+        p: Point,
+        cell: Cell,
+        best: Option<Nearest>,
+    ) -> Option<Nearest>
         ensures { best_in self.now result ≡ visit_cell p cell (items_of self.now)
             (best_in self.now best) }
     {
         let mut b = best;
         for i in 0..self.index.count {
-            b = self.offer(p, cell, i, b);
+            b = self.offer::<ROWS_FIRST>(p, cell, i, b);
         }
         b
     }
 
     // The cells of one row of a ring, from low to high.
-    fn visit_row(&self, p: Point, iy: usize, columns: Run, best: Option<Nearest>) -> Option<Nearest>
+    fn visit_row<const ROWS_FIRST: bool>(
+        &self,
+        p: Point,
+        iy: usize,
+        columns: Run,
+        best: Option<Nearest>,
+    ) -> Option<Nearest>
         requires { (0 < columns.step) × (columns.step ≤ 2048) × (columns.end ≤ 1024) }
         ensures { best_in self.now result
             ≡ visit_ring p (items_of self.now) (row_cells iy (listed columns) []) (best_in self.now best) }
     {
         let mut b = best;
         for ix in (columns.first..columns.end).step_by(columns.step) {
-            b = self.visit_cell(p, Cell { ix, iy }, b);
+            b = self.visit_cell::<ROWS_FIRST>(p, Cell { ix, iy }, b);
         }
         b
     }
 
     // The cells of a ring, row by row.
-    fn visit_ring(&self, p: Point, ring: Ring, best: Option<Nearest>) -> Option<Nearest>
+    fn visit_ring<const ROWS_FIRST: bool>(
+        &self,
+        p: Point,
+        ring: Ring,
+        best: Option<Nearest>,
+    ) -> Option<Nearest>
         requires { Sides self.now.index.grid × Inside self.now.index.grid ring.center.ix ring.center.iy }
         ensures { best_in self.now result
             ≡ visit_ring p (items_of self.now)
@@ -387,13 +427,32 @@ impl<'a> Spans<'a> {
         let rows = g.ring_rows(ring);
         let mut b = best;
         for iy in rows.first..rows.end {
-            b = self.visit_row(p, iy, g.ring_columns(ring, iy), b);
+            b = self.visit_row::<ROWS_FIRST>(p, iy, g.ring_columns(ring, iy), b);
         }
         b
     }
 
-    // `Grid::nearest`: ring by ring, until nothing farther out can beat the best, or the rings have outgrown the grid.
-    fn search(&self, p: Point) -> Option<Nearest>
+    // Whether the spans cover less of the grid's rows than of its columns, by sixteen of them or fewer: what they cover less of tells them apart
+    // sooner. Along a straight road all agree on the other. Either answer serves, so there is no clause; asked once a query, it costs little.
+    fn rows_tell_more(&self) -> bool {
+        let g = self.index.grid;
+        let count = self.index.count;
+        let mut columns = 0usize;
+        let mut rows = 0usize;
+        for i in (0..count).step_by(count / 16 + 1) {
+            let at = 4 * i;
+            let wide = self.ranges[at + 1].saturating_sub(self.ranges[at]);
+            let high = self.ranges[at + 3].saturating_sub(self.ranges[at + 2]);
+            columns = columns.saturating_add(wide).saturating_add(1);
+            rows = rows.saturating_add(high).saturating_add(1);
+        }
+        rows.saturating_mul(g.cols) < columns.saturating_mul(g.rows)
+    }
+
+    // `Grid::nearest`: ring by ring, until nothing farther out can beat the best, or the rings have outgrown the grid. By itself for either order: in
+    // one function the loop over the spans of the second was slower.
+    #[inline(never)]
+    fn search_by<const ROWS_FIRST: bool>(&self, p: Point) -> Option<Nearest>
         requires { 0 < self.now.index.count }
         ensures { best_in self.now result ≡ searched p self.now.index.grid (spans_of self.now) }
     {
@@ -412,9 +471,20 @@ impl<'a> Spans<'a> {
             if g.outgrown(ring) {
                 return best;
             }
-            best = self.visit_ring(p, ring, best);
+            best = self.visit_ring::<ROWS_FIRST>(p, ring, best);
         }
         best
+    }
+
+    // The search by what tells the spans apart sooner.
+    fn search(&self, p: Point) -> Option<Nearest>
+        requires { 0 < self.now.index.count }
+        ensures { best_in self.now result ≡ searched p self.now.index.grid (spans_of self.now) }
+    {
+        if self.rows_tell_more() {
+            return self.search_by::<true>(p);
+        }
+        self.search_by::<false>(p)
     }
 
     // The nearest of the spans to p, with the projection onto it; none for a point that is not finite.

@@ -7,7 +7,7 @@ use Rattle.network.proofs.Walk.{holds_is}
 use Rattle.network.proofs.Spans.offer.Goals as goal
 
 pub returns-then-holds : goal.returns-then-holds
-returns-then-holds c =
+returns-then-holds g c =
     let a = c.args in
     let s = a.self.now in
     let it = item_in s.lanes.now s.points.now s.spans.now s.boxes.now s.index a.i in
@@ -20,7 +20,7 @@ returns-then-holds c =
 
 pub returns : goal.returns
 unfolding offered
-returns c =
+returns g c =
     let a = c.args in
     let s = a.self.now in
     let it = item_in s.lanes.now s.points.now s.spans.now s.boxes.now s.index a.i in

@@ -7,7 +7,7 @@ use Rattle.network.proofs.Walk.{cell_next, cell_end}
 use Rattle.network.proofs.Spans.visit_cell.Goals as goal
 
 pub loop-i-preserved : goal.loop-i-preserved
-loop-i-preserved c =
+loop-i-preserved g c =
     let l = c.loop-i in
     let a = c.args in
     let s = a.self.now in
@@ -18,7 +18,7 @@ loop-i-preserved c =
     a.p a.cell (n - l.i) l.i (best_of s.lanes.now s.points.now l.b) _ _ (omega arith) c.offer-b.ensures l.invariant)
 
 pub returns : goal.returns
-returns c =
+returns g c =
     let l = c.loop-i in
     let a = c.args in
     let s = a.self.now in

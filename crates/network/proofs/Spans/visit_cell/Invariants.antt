@@ -6,7 +6,7 @@ use Rattle.network.specs.Tables.{item_list}
 use Rattle.network.proofs.Spans.visit_cell.Given as goal
 
 abbrev pub invariant-loop-i : goal.invariant-loop-i
-invariant-loop-i l =
+invariant-loop-i g l =
     let s = l.self in
     let n = s.index.count in
     visit_cell l.p l.cell (item_list s.lanes.now s.points.now s.spans.now s.boxes.now s.index (n - l.i) l.i) (best_in s l.b)

@@ -9,7 +9,7 @@ use Rattle.network.proofs.Walk.{ring_next, ring_end, ring_whole}
 use Rattle.network.proofs.Spans.visit_ring.Goals as goal
 
 pub loop-iy-preserved : goal.loop-iy-preserved
-loop-iy-preserved c =
+loop-iy-preserved g c =
     let a = c.args in
     let s = a.self.now in
     let l = c.loop-iy in
@@ -25,7 +25,7 @@ loop-iy-preserved c =
     )
 
 pub returns : goal.returns
-returns c =
+returns g c =
     let a = c.args in
     let s = a.self.now in
     let l = c.loop-iy in

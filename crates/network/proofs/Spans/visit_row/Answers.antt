@@ -6,7 +6,7 @@ use Rattle.network.proofs.Walk.{row_next, row_end}
 use Rattle.network.proofs.Spans.visit_row.Goals as goal
 
 pub loop-ix-preserved : goal.loop-ix-preserved
-loop-ix-preserved c =
+loop-ix-preserved g c =
     let l = c.loop-ix in
     let a = c.args in
     let s = a.self.now in
@@ -15,7 +15,7 @@ loop-ix-preserved c =
     (best_of s.lanes.now s.points.now l.b) _ _ c.requires.0 c.loop-ix-test.true c.visit_cell-b.ensures l.invariant
 
 pub returns : goal.returns
-returns c =
+returns g c =
     let l = c.loop-ix in
     let a = c.args in
     let s = a.self.now in
@@ -24,7 +24,7 @@ returns c =
     (best_of s.lanes.now s.points.now l.b) _ c.loop-ix-test.false l.invariant
 
 pub returns-2 : goal.returns-2
-returns-2 c =
+returns-2 g c =
     let l = c.loop-ix in
     let a = c.args in
     let s = a.self.now in

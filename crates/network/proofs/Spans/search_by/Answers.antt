@@ -1,13 +1,13 @@
--- `search` takes one ring a turn; `Searching` says where it stands.
+-- `search_by` takes one ring a turn; `Searching` says where it stands.
 use mathlib.Core.Path.{sym, ◌∙◌}
 use native.Mathlib.Omega.{arith}
 use Rattle.grid.proofs.Sides.{inside}
 use Rattle.network.specs.Tables.{item_list, span_list}
 use Rattle.network.proofs.Walk.{search_start, search_enough, search_outgrown, search_next, search_over, searched_is}
-use Rattle.network.proofs.Spans.search.Goals as goal
+use Rattle.network.proofs.Spans.search_by.Goals as goal
 
 pub loop-r-init : goal.loop-r-init
-loop-r-init c =
+loop-r-init g c =
     let a = c.args in
     let s = a.self.now in
     let i = inside s.index.grid (s.indexed.sides c.requires) a.p.x a.p.y in
@@ -20,7 +20,7 @@ loop-r-init c =
     )
 
 pub returns-then-enough : goal.returns-then-enough
-returns-then-enough c =
+returns-then-enough g c =
     let a = c.args in
     let s = a.self.now in
     let l = c.loop-r in
@@ -30,7 +30,7 @@ returns-then-enough c =
     c.col.ensures c.row.ensures c.max-last.ensures
 
 pub returns-then-outgrown : goal.returns-then-outgrown
-returns-then-outgrown c =
+returns-then-outgrown g c =
     let a = c.args in
     let s = a.self.now in
     let l = c.loop-r in
@@ -42,7 +42,7 @@ returns-then-outgrown c =
     c.col.ensures c.row.ensures c.max-last.ensures
 
 pub loop-r-preserved : goal.loop-r-preserved
-loop-r-preserved c =
+loop-r-preserved g c =
     let a = c.args in
     let s = a.self.now in
     let l = c.loop-r in (
@@ -54,7 +54,7 @@ loop-r-preserved c =
     )
 
 pub returns-else-outgrown : goal.returns-else-outgrown
-returns-else-outgrown c =
+returns-else-outgrown g c =
     let a = c.args in
     let s = a.self.now in
     let l = c.loop-r in
