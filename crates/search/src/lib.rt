@@ -14,7 +14,7 @@ mod state;
 
 use arrayvec::ArrayVec;
 pub use graph::Graph;
-use state::Search;
+pub use state::Search;
 
 // The cost of a lane change.
 const LANE_CHANGE_COST: f32 = 30.0;

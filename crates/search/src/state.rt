@@ -6,7 +6,7 @@ ghost use Rattle.std.specs.Prelude.{◌≡◌, ◌<◌, ℕ, length, slice_index
 // place, which saves two copies for each. Arrays beside one another and no array of structs: document 01 asks for this form (docs/DECISIONS.md,
 // "Forms by place").
 #[derive(Clone, Copy)]
-pub(crate) struct Search {
+pub struct Search {
     pub dist: [f32; 256],
     pub prev: [u8; 256],
     pub closed: [bool; 256],
