@@ -1,7 +1,8 @@
 // The numbers that look at the whole file, after its records: a caller's side above 1, then 7, then 8.
 #![tactic(auto)]
 
-ghost use Rattle.std.specs.Prelude.{◌≡◌, ◌≢◌, map, ℕ, ◌+◌, ◌*◌, ◌≤◌, ◌<◌, length, get_or, IfSome, OnOk, unwrap_or};
+ghost use Rattle.std.specs.Prelude.{◌≡◌, ◌≢◌, [], map, ℕ, ◌+◌, ◌*◌, ◌≤◌, ◌<◌, length, get_or};
+ghost use Rattle.std.specs.Prelude.{IfSome, OnOk, unwrap_or};
 ghost use Rattle.fields.specs.Fields.{u16_at};
 ghost use Rattle.plan_format.specs.Plan.{any, from_missing, holds, repeats, index_of};
 ghost use Rattle.plan_format.specs.Records.{link_at, raised_at};
@@ -91,16 +92,24 @@ impl Key {
     }
 }
 
-// The keys of the records of a part. One by one, since `collect` into an `ArrayVec` answers a `Result`.
+// Puts the keys of the records of a part into an empty list. One by one, since `extend` answers a `Result`.
 // Here and below a file and a list with `Listed`: a struct of the two would be no plainer, since every clause would name both through it.
+fn put_keys<const N: usize>(file: &[u8], part: &[usize], kind: Key, keys: &mut ArrayVec<usize, N>)
+    requires { Listed file.now part.now N × (keys.old.items ≡ []) }
+    ensures { keys.new.items ≡ map (key_at file.now (which kind)) part.now }
+{
+    for at in part {
+        keys.push(kind.of(file, *at));
+    }
+}
+
+// The keys of the records of a part.
 pub fn keys<const N: usize>(file: &[u8], part: &[usize], kind: Key) -> ArrayVec<usize, N>
     requires { Listed file.now part.now N }
     ensures { result.items ≡ map (key_at file.now (which kind)) part.now }
 {
     let mut keys = ArrayVec::new();
-    for at in part {
-        keys.push(kind.of(file, *at));
-    }
+    put_keys(file, part, kind, &mut keys);
     keys
 }
 
@@ -130,12 +139,14 @@ fn has_repeat(keys: &[usize]) -> bool
     false
 }
 
-// Number 7 for one kind of key.
+// Number 7 for one kind of key. The list is filled in place, since the answer of `keys` would be copied here.
 fn repeats_key(file: &[u8], part: &[usize], kind: Key) -> bool
     requires { Listed file.now part.now 256 }
     ensures { result ≡ repeats (map (key_at file.now (which kind)) part.now) }
 {
-    has_repeat(&keys::<256>(file, part, kind))
+    let mut keys = ArrayVec::<usize, 256>::new();
+    put_keys(file, part, kind, &mut keys);
+    has_repeat(&keys)
 }
 
 // The rows of lanes by their numbers, or of places by their lanes'. Backwards, so that the first with a number stays.
