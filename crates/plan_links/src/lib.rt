@@ -2,7 +2,7 @@
 // One pass chains the links of each lane and role; following the chains writes them, so the time is linear.
 #![tactic(auto)]
 
-ghost use Rattle.std.specs.Prelude.{◌≡◌, map, ◌+◌, ◌*◌, ◌≤◌, ◌<◌, length};
+ghost use Rattle.std.specs.Prelude.{◌≡◌, map, ◌+◌, ◌*◌, ◌≤◌, ◌<◌, length, replicate, None};
 ghost use Rattle.std.proofs.lemmas.List.Edits.{sets};
 ghost use Rattle.plan_format.specs.Laws.{Each, Room};
 ghost use Rattle.plan_format.specs.Records.{link_at};
@@ -20,14 +20,15 @@ use plan_whole::{index_numbers, lane_row};
 
 // The links of a file as chains: for each lane and role the first link, and for each link the next of its lane and role.
 // `starts` has where each link starts, `index` the row of each lane number. Arrays, since there is no heap: an entry for each chain and each link.
+// They are lent, since a struct that held them would be copied when it is made and handed on.
 #[derive(Drop)]
 struct Links<'a> {
     file: &'a [u8],
     starts: &'a [usize],
     index: &'a [u16],
-    first: [Option<u16>; 768],
-    next: [Option<u16>; 2048],
-    ghost chained: { Chained file.now index.now starts.now (heads first) (heads next) } by { chained_prop _ _ _ _ _ },
+    first: &'a [Option<u16>],
+    next: &'a [Option<u16>],
+    ghost chained: { Chained file.now index.now starts.now (heads first.now) (heads next.now) } by { chained_prop _ _ _ _ _ },
 }
 
 // The number of the chain of a lane's links of one role.
@@ -41,16 +42,23 @@ fn chain(lane: usize, role: Role) -> usize
 impl<'a> Links<'a> {
     ghost use Rattle.plan_links.specs.Kept.{kept, kept_rows, grouped, fanned};
 
-    fn new(file: &'a [u8], starts: &'a [usize], index: &'a [u16]) -> Self
+    // `first` comes with no link in it; what `next` holds first does not matter.
+    fn new(
+        file: &'a [u8],
+        starts: &'a [usize],
+        index: &'a [u16],
+        first: &'a mut [Option<u16>],
+        next: &'a mut [Option<u16>],
+    ) -> Self
         requires { Each (Room 11 file.now) starts.now
             × (length starts.now ≤ 2048)
             × Each (Roled file.now) starts.now
             × Each (Keyed file.now index.now) starts.now
-            × (length index.now ≡ 65536) }
+            × (length index.now ≡ 65536)
+            × (first.old ≡ replicate 768 None)
+            × (length next.old ≡ 2048) }
         ensures { (result.file.now ≡ file.now) × (result.starts.now ≡ starts.now) × (result.index.now ≡ index.now) }
     {
-        let mut first = [None; 768];
-        let mut next = [None; 2048];
         for j in (0..starts.len()).rev() {
             let at = starts[j];
             let lane = lane_row(file, at, index).unwrap();
@@ -144,5 +152,7 @@ pub fn load_links(
     // an entry for each number that a lane can have
     let mut placed = [0u16; 65536];
     index_numbers(file, ps, &mut placed);
-    Links::new(file, ks, index).group(ls, &placed, links, fans);
+    let mut first = [None; 768];
+    let mut next = [None; 2048];
+    Links::new(file, ks, index, &mut first, &mut next).group(ls, &placed, links, fans);
 }

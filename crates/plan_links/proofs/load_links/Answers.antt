@@ -1,5 +1,5 @@
 -- The chains hold the links by key; what is written by keys is what the definition has (Linked).
-use Rattle.std.proofs.Common.{ℕ, List, ◌∙◌, ap, sym, arith}
+use Rattle.std.proofs.Common.{ℕ, List, ◌∙◌, ap, refl, sym, arith}
 use Rattle.plan_format.specs.Laws.{Bytes}
 use Rattle.plan_format.specs.Tables.{over}
 use Rattle.plan_links.specs.Linked.{all_fans, all_groups, keyed}
@@ -10,7 +10,7 @@ new-requires c =
     let a = c.args in
     let bytes : Bytes a.file.now = (λ i. omega (arith, c.type_inv.file i)) in
     let L = c.requires.0 in
-    (L.link, L.links, L.role, keyed a.file.now a.ls.now a.ks.now a.ps.now a.index.now bytes L, L.index.size)
+    (L.link, L.links, L.role, keyed a.file.now a.ls.now a.ks.now a.ps.now a.index.now bytes L, L.index.size, refl, refl)
 
 pub returns : goal.returns
 returns c =

@@ -1,15 +1,15 @@
 -- From the last link to the first: each is put in front of its chain.
-use Rattle.std.proofs.Common.{◌≡◌, None, ◌-◌, ◌∙◌, refl, sym, arith, get_or, length, replicate, length-set}
+use Rattle.std.proofs.Common.{◌≡◌, ◌-◌, ◌∙◌, ap, sym, arith, get_or, length, length-set}
 use Rattle.plan_format.specs.Roles.{role_known}
 use Rattle.plan_links.specs.Chains.{chains_push, chains_start, heads, heads_none, link_key}
 use Rattle.plan_links.proofs.Links.new.Goals as goal
 
 pub loop-j-init : goal.loop-j-init
 loop-j-init c = (
-  refl,
-  refl,
-  chains_start c.args.file.now c.args.index.now c.args.starts.now (heads (replicate 768 None)) (heads (replicate 2048 None))
-      (length c.args.starts.now) (heads_none 768),
+  ap length c.requires.5,
+  c.requires.6,
+  chains_start c.args.file.now c.args.index.now c.args.starts.now (heads c.args.first.now) (heads c.args.next.now)
+      (length c.args.starts.now) (λ q. rw c.requires.5 (heads_none 768 q)),
 )
 
 pub loop-j-preserved : goal.loop-j-preserved

@@ -5,7 +5,7 @@ use Rattle.plan_links.proofs.Links.write.Given as goal
 
 abbrev pub invariant-loop-link : goal.invariant-loop-link
 invariant-loop-link l =
-    Writing l.self.file.now l.self.index.now l.self.starts.now (heads l.self.next) l.start
+    Writing l.self.file.now l.self.index.now l.self.starts.now (heads l.self.next.now) l.start
     (links_of l.self.file.now l.self.index.now l.self.starts.now l.q)
     l.initial.out l.out (head l.link) l.n
 
