@@ -3,7 +3,8 @@
 #![tactic(auto)]
 
 ghost use Rattle.std.specs.Prelude.{◌≡◌, ◌+◌, ◌*◌, ◌<◌, ◌≤◌, length, IfSome, MatchOption, unwrap_or};
-ghost use Rattle.rows.specs.Rows.{place_of};
+ghost use Rattle.std.specs.Option.{option_map_or};
+ghost use Rattle.rows.specs.Rows.{place_of, raised_number};
 ghost use Rattle.beside.specs.Seated.{Seated};
 ghost use Rattle.beside.specs.Sides.{direction_at, direction_number, side_at, side_number};
 ghost use Rattle.beside.specs.Beside.{nowhere, answer_of, beyond, toward_larger, nearer_at, next_row, in_section, beside_rows};
@@ -147,10 +148,17 @@ pub fn place_row(fans: &[usize], place_count: usize, i: usize) -> Option<usize>
 }
 
 impl Seats<'_> {
-    // Whether the lane of place k stands in section j between the number `here` and the nearest so far, that of place `best`, if there is one.
-    fn is_nearer(&self, j: usize, here: usize, larger: bool, best: Option<usize>, k: usize) -> bool
-        requires { IfSome best (λ b. b < self.now.place_count) × (k < self.now.place_count) }
-        ensures { result ≡ nearer_at self.now.places.now self.now.place_count j here larger (unwrap_or best 256) k }
+    // Whether the lane of place k stands in section j between the number `here` and the nearest so far, if there is one: a place's row and number.
+    fn is_nearer(
+        &self,
+        j: usize,
+        here: usize,
+        larger: bool,
+        best: Option<(usize, usize)>,
+        k: usize,
+    ) -> bool
+        requires { IfSome best (λ b. (b.0 < self.now.place_count) × (b.1 ≡ raised_number self.now.places.now b.0)) × (k < self.now.place_count) }
+        ensures { result ≡ nearer_at self.now.places.now self.now.place_count j here larger (option_map_or (λ b. b.0) best 256) k }
     {
         let places = self.places;
         if places[3 * k + 1] != j {
@@ -161,25 +169,26 @@ impl Seats<'_> {
             return false;
         }
         match best {
-            Some(b) => is_beyond(larger, x, places[3 * b + 2]),
+            Some((_, number)) => is_beyond(larger, x, number),
             None => true,
         }
     }
 
     // The place next to the number `here` in section j, toward the larger numbers or the smaller. Not by `fold`, whose closure would have this `if`
-    // and both facts of `best` in its own clauses, nor by `min_by`, whose order would turn with `larger`.
+    // and the facts of `best` in its own clauses, nor by `min_by`, whose order would turn with `larger`.
     #[tactic(auto, unfolding(crate::specs::Beside::next_row), using(crate::specs::BesideLaws::next_nearer, crate::specs::BesideLaws::next_same))]
     fn next_row(&self, j: usize, here: usize, larger: bool) -> Option<usize>
         ensures is { unwrap_or result 256 ≡ next_row self.now.places.now self.now.place_count j here larger self.now.place_count }
         ensures within { IfSome result (λ r. r < self.now.place_count) }
     {
+        // The number is kept beside the row, since each turn would read it from the table again.
         let mut best = None;
         for k in 0..self.place_count {
             if self.is_nearer(j, here, larger, best, k) {
-                best = Some(k);
+                best = Some((k, self.places[3 * k + 2]));
             }
         }
-        best
+        best.map(|(row, _)| row)
     }
 
     // The lane beside `at`'s, at the same s and at its center.
