@@ -13,5 +13,5 @@ pub fn find_lane(id: LaneId, lanes: &[usize], count: usize) -> Option<usize>
     ensures within { IfSome result (λ i. i < count) }
     ensures row { unwrap_or result 256 ≡ first_row (is_lane lanes.now id.0) count 0 256 }
 {
-    (0..count).find(|&i| lanes[6 * i] == id.0)
+    (0..count).position(|i| lanes[6 * i] == id.0)
 }
