@@ -1,8 +1,8 @@
 // advance.rs: where branches end, and the places they give. `specs/Ends.antt` says what each function answers, `specs/Held.antt` how a `Found`
-// holds the places.
+// holds the places, `specs/Rounded.antt` what stands beside each.
 #![tactic(auto)]
 
-ghost use Rattle.std.specs.Prelude.{◌≡◌, ◌+◌, ◌*◌, ◌<◌, ◌≤◌, ℕ, List, [], length, reverse, set};
+ghost use Rattle.std.specs.Prelude.{◌≡◌, ◌+◌, ◌*◌, ◌<◌, ◌≤◌, ℕ, List, [], length, map, reverse, set};
 ghost use Rattle.std.specs.List.{list_any};
 ghost use Rattle.std.specs.Float.{nan};
 ghost use Rattle.arrayvec.specs.ArrayVec.{array_vec_len};
@@ -10,6 +10,7 @@ ghost use Rattle.beside.specs.Beside.{nowhere};
 ghost use Rattle.rows.specs.Rows.{place_of};
 ghost use Rattle.branches.specs.Tables.{Ending, Laid};
 ghost use Rattle.ends.specs.Ends.{case_of, position_of, short_of, placing_of, end_arc, end_position, end_of, give, place, place_in, same_placing};
+ghost use Rattle.ends.specs.Rounded.{placing_with, rounded_in, rounded_of};
 
 use arrayvec::ArrayVec;
 use beside::LanePosition;
@@ -44,6 +45,30 @@ pub struct Placing {
     pub s: usize,
     pub offset: usize,
     pub short: usize,
+}
+
+// A `Placing` but for its lane, which a place has itself: the case, and what took rounding. The case stands here too, since it was worked out of each
+// place before its lane was looked at.
+#[derive(Clone, Copy, Default)]
+pub struct Rounded {
+    pub case: usize,
+    pub s: usize,
+    pub offset: usize,
+    pub short: usize,
+}
+
+impl Placing {
+    // What of it stands beside a place.
+    fn rounded(self) -> Rounded
+        ensures { result ≡ rounded_in self }
+    {
+        Rounded {
+            case: self.case,
+            s: self.s,
+            offset: self.offset,
+            short: self.short,
+        }
+    }
 }
 
 impl Advance {
@@ -93,14 +118,18 @@ impl Advance {
         }
     }
 
-    // Whether the place is told apart by k. Most differ in the lane, so that comes first: then nothing is rounded.
-    #[tactic(auto, unfolding(crate::specs::Ends::placing_of))]
-    fn is_told_by(self, k: Placing) -> bool
-        ensures { result ≡ same_placing (placing_of self) k }
+    // Whether the place is told apart by k. `rounded` is what stands beside it. Most differ in the lane, so that comes first.
+    #[tactic(auto, unfolding(crate::specs::Rounded::placing_with))]
+    fn is_told_by(self, rounded: Rounded, k: Placing) -> bool
+        ensures { result ≡ same_placing (placing_with self rounded) k }
     {
         let at = self.position();
         let lane = at.lane;
-        lane.0 == k.lane && self.placing() == k
+        lane.0 == k.lane
+            && rounded.case == k.case
+            && rounded.s == k.s
+            && rounded.offset == k.offset
+            && rounded.short == k.short
     }
 
     // Writes the place as row i of the lists: case and lane; s, offset and metres short.
@@ -174,10 +203,13 @@ fn end_of(remaining: f64, room: f64, at: LanePosition) -> Advance
     Advance::Reached(at)
 }
 
-// The places given, the newest last.
+// The places given, the newest last, and beside each what `holds` reads of it for each place that comes later, so that it is rounded once. Whole
+// `Placing`s would repeat the lane, and an advance clears its lists at each call.
 #[derive(Drop)]
 pub struct Found {
     pub out: ArrayVec<Advance, 1026>,
+    pub rounded: ArrayVec<Rounded, 1026>,
+    pub ghost paired: { rounded.items ≡ map rounded_of out.items },
 }
 
 impl Found {
@@ -190,6 +222,7 @@ impl Found {
     {
         Found {
             out: ArrayVec::new(),
+            rounded: ArrayVec::new(),
         }
     }
 
@@ -197,7 +230,14 @@ impl Found {
     fn holds(&self, k: Placing) -> bool
         ensures { result ≡ list_any (λ a. same_placing (placing_of a) k) (reverse self.now.out.items) }
     {
-        self.out.iter().rev().any(|held| held.is_told_by(k))
+        let out = self.out.as_slice();
+        let rounded = self.rounded.as_slice();
+        for i in (0..out.len()).rev() {
+            if out[i].is_told_by(rounded[i], k) {
+                return true;
+            }
+        }
+        false
     }
 
     // The place a is given unless it was given before. That one more fits is asked from here up to the loop of `explore`, which counts the steps: a
@@ -208,8 +248,10 @@ impl Found {
         ensures given { found_of self.new ≡ give a (found_of self.old) }
         ensures one { array_vec_len self.new.out ≤ array_vec_len self.old.out + 1 }
     {
-        if !self.holds(a.placing()) {
+        let k = a.placing();
+        if !self.holds(k) {
             self.out.push(a);
+            self.rounded.push(k.rounded());
         }
     }
 
